@@ -1,0 +1,5 @@
+pub mod Chars
+pub mod Decode
+pub mod Walked
+pub mod Forms
+pub mod Store

@@ -1,0 +1,4 @@
+pub mod Utf8
+pub mod Encode
+pub mod Unique
+pub mod Examples

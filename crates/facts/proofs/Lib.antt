@@ -1,0 +1,4 @@
+pub mod StringLaws
+pub mod NumberLaws
+pub mod DayLaws
+pub mod TelephoneLaws

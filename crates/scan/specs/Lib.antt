@@ -1,0 +1,6 @@
+pub mod Choice
+pub mod Bytes
+pub mod Lists
+pub mod Walk
+pub mod Unique
+pub mod Turns
