@@ -1,0 +1,21 @@
+-- `distinct::repeats` meets its contract.
+-- Assumes nothing.
+use Rattle.distinct.proofs.Deciding.{sorted-decides}
+use borrow.Author.Needs.{needs}
+use Rattle.distinct.proofs.repeats.Statement.{statement}
+use Rattle.distinct.proofs.repeats.Tie as tie
+
+sort-requires : tie.Need-sort-requires
+sort-requires c κs = search needs
+
+same-length : tie.Need-same-length
+same-length c = search needs
+
+same-length-2 : tie.Need-same-length-2
+same-length-2 c = search needs
+
+returns : tie.Need-returns
+returns c = search sorted-decides
+
+pub repeats-spec : {M : Type 1} → statement M
+repeats-spec = tie.close (tie.spec sort-requires same-length same-length-2 returns)

@@ -1,0 +1,4 @@
+pub mod Elements
+pub mod Walked
+pub mod Unique
+pub mod Table

@@ -1,0 +1,4 @@
+pub mod After
+pub mod Open
+pub mod InOrder
+pub mod Read

@@ -1,0 +1,1 @@
+// The order of an element table: definitions and laws only.

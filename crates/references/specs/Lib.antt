@@ -1,0 +1,5 @@
+pub mod References
+pub mod Runs
+pub mod Decoded
+pub mod Examples
+pub mod Unique
