@@ -1,0 +1,9 @@
+pub mod Lists
+pub mod Decimal
+pub mod Fields
+pub mod Lines
+pub mod Rows
+pub mod Sections
+pub mod Files
+pub mod Joins
+pub mod Asked

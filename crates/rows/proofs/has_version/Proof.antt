@@ -1,0 +1,16 @@
+-- `rows::has_version` meets its contract: that question, asked of the rows.
+-- Assumes nothing.
+use Rattle.rows.specs.Rows.{isAsked}
+use borrow.Author.Needs.{needs}
+use Rattle.rows.proofs.has_version.Statement.{statement}
+use Rattle.rows.proofs.has_version.Tie as tie
+
+some-row-requires : tie.Need-some-row-requires
+some-row-requires c κs = search needs
+
+returns : tie.Need-returns
+unfolding isAsked
+returns c = c .some-row .ensures
+
+pub has-version-spec : {M : Type 1} → statement M
+has-version-spec = tie.close (tie.spec some-row-requires returns)

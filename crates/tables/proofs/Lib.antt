@@ -1,0 +1,4 @@
+pub mod Lines
+pub mod Counts
+pub mod Sections
+pub mod Told
