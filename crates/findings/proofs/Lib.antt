@@ -1,0 +1,10 @@
+pub mod Classes
+pub mod Order
+pub mod Records
+pub mod Filling
+pub mod Lists
+pub mod Meets
+pub mod Kept
+pub mod Faults
+pub mod Good
+pub mod Laws
