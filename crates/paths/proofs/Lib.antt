@@ -1,0 +1,6 @@
+pub mod Numbers
+pub mod Chains
+pub mod Children
+pub mod Walks
+pub mod Listing
+pub mod Parents
