@@ -1,21 +1,22 @@
--- The elements below an element that a procedure counts: so many levels below it, and of a kind.
+-- The elements below an element that a procedure counts: of a role, so many levels below it, that pass a test.
 -- Assumes nothing.
 use Prim.Native.Nat.{ℕ, zero, suc, _+_, _-_}
-use mathlib.Core.Bool.{Bool}
+use mathlib.Core.Bool.{Bool, true, false}
 use mathlib.Core.List.{List, [], _∷_}
-use lib.Dec.{eqb}
+use lib.Dec.{eqb, ltb}
 use lib.ListN.{length, getD}
 use Rattle.scan.specs.Choice.{pick, _and_, not}
 use Rattle.scan.specs.Bytes.{text}
+use Rattle.scan.specs.declared.Found.{Found}
+use Rattle.scan.specs.declared.Found.the-variants.{At, Nothing}
 use Rattle.facts.specs.Strings.{equal, beginsWith}
-use Rattle.elements.specs.Elements.{parentOf}
 use Rattle.paths.specs.declared.Role.{Role}
-use Rattle.paths.specs.declared.Role.the-variants.{OrganisationId, Telecom, Entity4, OperationCode}
+use Rattle.drafts.specs.declared.Test.{Test}
+use Rattle.drafts.specs.declared.Test.the-variants.{Any, DunsRoot, LabelerRoot, Telephone, Mail, Agent, Import, Empty}
 use Rattle.drafts.specs.declared.Wanted.{Wanted}
-use Rattle.drafts.specs.declared.Wanted.the-variants.{Child, DunsId, LabelerId, TelTelecom, MailTelecom, Organisation, Operation, AgentCode, ImportCode}
-use Rattle.drafts.specs.Drafts.{Draft, count, is, attribute, said, isEmpty}
+use Rattle.drafts.specs.Drafts.{Draft, count, parent, first, after, is, attribute, said, isEmpty}
 
--- ---- the texts that document 01 names
+-- ---- the tests, with the texts that document 01 names
 abbrev pub dunsRoot : List ℕ
 dunsRoot = text "1.3.6.1.4.1.519.1"
 
@@ -28,76 +29,80 @@ agentCode = text "C73330"
 abbrev pub importCode : List ℕ
 importCode = text "C73599"
 
--- ---- how many levels below
-unfoldable pub levels : Wanted → ℕ
-levels (Child r) = 1
-levels DunsId = 1
-levels LabelerId = 1
-levels TelTelecom = 1
-levels MailTelecom = 1
-levels (Organisation r) = 2
-levels Operation = 3
-levels AgentCode = 4
-levels ImportCode = 4
-
--- the parent's parent, and so on, j times
-unfoldable pub ancestor : List ℕ → ℕ → ℕ → ℕ
-ancestor rows zero k = k
-ancestor rows (suc j) k = ancestor rows j (parentOf rows k)
-
--- ---- of which kind
-abbrev pub rootIs : Draft → List ℕ → ℕ → Bool
-rootIs d root k = equal (attribute d k (text "root")) root
+abbrev pub attributeIs : Draft → List ℕ → List ℕ → ℕ → Bool
+attributeIs d name value k = equal (attribute d k name) value
 
 abbrev pub valueBegins : Draft → List ℕ → ℕ → Bool
 valueBegins d start k = beginsWith start (attribute d k (text "value"))
 
--- the operation code of a level 4 entity: an act definition and a performance stand between
-abbrev pub agency : Draft → List ℕ → ℕ → Bool
-agency d c k = is d Entity4 (ancestor (d .rows) 3 k) and is d OperationCode k and equal (attribute d k (text "code")) c
+unfoldable pub passes : Draft → Test → ℕ → Bool
+passes d Any k = true
+passes d DunsRoot k = attributeIs d (text "root") dunsRoot k
+passes d LabelerRoot k = attributeIs d (text "root") labelerRoot k
+passes d Telephone k = valueBegins d (text "tel:") k
+passes d Mail k = valueBegins d (text "mailto:") k
+passes d Agent k = attributeIs d (text "code") agentCode k
+passes d Import k = attributeIs d (text "code") importCode k
+passes d Empty k = isEmpty (said d k)
 
-unfoldable pub suits : Draft → Wanted → ℕ → Bool
-suits d (Child r) k = is d r k
-suits d DunsId k = is d OrganisationId k and rootIs d dunsRoot k
-suits d LabelerId k = is d OrganisationId k and rootIs d labelerRoot k
-suits d TelTelecom k = is d Telecom k and valueBegins d (text "tel:") k
-suits d MailTelecom k = is d Telecom k and valueBegins d (text "mailto:") k
-suits d (Organisation r) k = is d r k
-suits d Operation k = is d OperationCode k
-suits d AgentCode k = agency d agentCode k
-suits d ImportCode k = agency d importCode k
+-- ---- the elements
+-- the parent's parent, and so on, so many levels up
+unfoldable pub ancestor : Draft → ℕ → ℕ → ℕ
+ancestor d zero k = k
+ancestor d (suc levels) k = ancestor d levels (parent d k)
 
 unfoldable pub wants : Draft → Wanted → ℕ → ℕ → Bool
-wants d w n k = eqb (ancestor (d .rows) (levels w) k) n and suits d w k
+wants d w n k = is d (w .role) k and eqb (ancestor d (w .levels) k) n and passes d (w .test) k
 
--- ---- the list of them
--- the numbers i, i + 1, .., m of them, that pass a test
-unfoldable pub select : (ℕ → Bool) → ℕ → ℕ → List ℕ
-select p i zero = []
-select p i (suc m) = pick (p i) (i ∷ select p (i + 1) m) (select p (i + 1) m)
+-- what stands inside n follows it in document order, up to the first element that starts at or behind its end: in a table in document order
+-- with no row behind its elements none is left out (proofs/Ordered.antt)
+abbrev pub inside : Draft → ℕ → ℕ → Bool
+inside d n k = ltb (first d k) (after d n)
 
--- in document order
+-- of the elements k, k + 1, .., m of them
+unfoldable pub within : Draft → Wanted → ℕ → ℕ → ℕ → List ℕ
+within d w n k zero = []
+within d w n k (suc m) =
+    pick (inside d n k) (pick (wants d w n k) (k ∷ within d w n (k + 1) m) (within d w n (k + 1) m)) []
+
+-- of all elements from k on
+unfoldable pub chosenFrom : Draft → Wanted → ℕ → ℕ → List ℕ
+chosenFrom d w n k = within d w n k (count d - k)
+
+-- those below n, in document order
 unfoldable pub chosen : Draft → Wanted → ℕ → List ℕ
-chosen d w n = select (wants d w n) 1 (count d - 1)
+chosen d w n = chosenFrom d w n (n + 1)
+
+-- ---- what is asked of them
+abbrev pub wanted : Role → ℕ → Test → Wanted
+wanted role levels test = record { role = role; levels = levels; test = test }
 
 abbrev pub kids : Draft → ℕ → Role → List ℕ
-kids d n r = chosen d (Child r) n
+kids d n r = chosen d (wanted r 1 Any) n
 
--- all elements of a role
-unfoldable pub all : Draft → Role → List ℕ
-all d r = select (is d r) 0 (count d)
+-- the first, and the only one
+abbrev pub firstOne : List ℕ → Found
+firstOne [] = Nothing
+firstOne (k ∷ ks) = At k
 
--- "one" means exactly one; and which it is
-abbrev pub one : List ℕ → Bool
-one ks = eqb (length ks) 1
+abbrev pub onlyOne : List ℕ → Found
+onlyOne [] = Nothing
+onlyOne (k ∷ []) = At k
+onlyOne (k ∷ j ∷ ks) = Nothing
 
-abbrev pub the : List ℕ → ℕ
-the ks = getD ks 0 0
+-- "one" means exactly one; and it has the property
+abbrev pub one : Found → Bool
+one Nothing = false
+one (At k) = true
 
--- one child of the role, with the property
-abbrev pub oneWith : Draft → ℕ → Role → (ℕ → Bool) → Bool
-oneWith d n r p = one (kids d n r) and p (the (kids d n r))
+abbrev pub oneHas : Found → (ℕ → Bool) → Bool
+oneHas Nothing p = false
+oneHas (At k) p = p k
 
--- one child of the role, with a text
-abbrev pub oneSaid : Draft → ℕ → Role → Bool
-oneSaid d n r = oneWith d n r (λ k. not (isEmpty (said d k)))
+abbrev pub the : Found → ℕ
+the Nothing = 0
+the (At k) = k
+
+-- the one child of the role
+abbrev pub onlyKid : Draft → ℕ → Role → Found
+onlyKid d n r = onlyOne (kids d n r)

@@ -1,6 +1,16 @@
-// A draft that was read, for the procedures: values of an element put to a test, and the elements below an element that are counted.
+// A draft that was read, for the procedures. It is lent as its document, its element table, the numbers of its elements' roles and its
+// type: values of an element put to a test, and the elements below an element that are looked for.
+mod chosen;
 mod tests;
 
+pub use chosen::ancestor;
+pub use chosen::how_many;
+pub use chosen::is_known;
+pub use chosen::is_role;
+pub use chosen::none;
+pub use chosen::only;
+pub use chosen::only_kid;
+pub use chosen::parent;
 use paths::Role;
 pub use tests::attribute_begins;
 pub use tests::attribute_is;
@@ -11,6 +21,8 @@ pub use tests::attribute_is_labeler_code;
 pub use tests::attribute_is_telephone;
 pub use tests::attribute_version;
 pub use tests::attribute_without_space;
+pub use tests::first_byte;
+pub use tests::number;
 pub use tests::text_is;
 pub use tests::text_is_empty;
 
@@ -27,22 +39,21 @@ pub enum Demand {
     NoOtherKey(usize, usize),
 }
 
-// What is counted below an element: its children of a role, its ids with a root, its telecoms that begin so; the organisations of a role
-// in its entities; an entity's operation codes; the codes of an establishment's agents and importers.
-pub enum Wanted {
-    Child(Role),
-    DunsId,
-    LabelerId,
-    TelTelecom,
-    MailTelecom,
-    Organisation(Role),
-    Operation,
-    AgentCode,
-    ImportCode,
+// What an element that is looked for passes: anything, the root of its id, the start of its telecom value, its operation code, no text.
+pub enum Test {
+    Any,
+    DunsRoot,
+    LabelerRoot,
+    Telephone,
+    Mail,
+    Agent,
+    Import,
+    Empty,
 }
 
-// How many were found, and the number of the first, or 0.
-pub struct Tally {
-    pub count: usize,
-    pub first: usize,
+// What is looked for below an element: the elements of a role, so many levels below it, that pass a test.
+pub struct Wanted {
+    pub role: Role,
+    pub levels: usize,
+    pub test: Test,
 }

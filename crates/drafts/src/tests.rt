@@ -1,86 +1,204 @@
-// What an attribute of the tag at `first`, or the text of the element there, says, put to a test.
+// What an attribute or the text of an element says, put to a test.
 ghost use mathlib.Core.Path.{_≡_};
+ghost use Prim.Native.Nat.{_+_, _*_, _^_, _<_};
+ghost use lib.ListN.{getD};
 ghost use Rattle.facts.specs.Strings.{equal, beginsWith, withoutSpace, isGuid, isLabelerCode};
 ghost use Rattle.facts.specs.Numbers.{versionOf};
 ghost use Rattle.facts.specs.Days.{isDay};
 ghost use Rattle.facts.specs.Telephones.{isTelephone};
-ghost use Rattle.values.specs.Attributes.{attributeOf};
-ghost use Rattle.values.specs.Texts.{textOf};
-ghost use Rattle.drafts.specs.Drafts.{isEmpty};
+ghost use Rattle.drafts.specs.Drafts.{draft, first, attribute, said, isEmpty};
+use paths::DocumentType;
 
-pub fn attribute_is(document: &[u8], first: usize, name: &[u8], wanted: &[u8]) -> bool
-    ensures { λ r. ⌜ r ≡ equal (attributeOf (now (document .entry)) first (now (name .entry))) (now (wanted .entry)) ⌝ }
+// The number at place k of element n's row, or 0 past the end of the table.
+pub fn number(elements: &[u32], n: usize, k: usize) -> usize
+    requires { ⌜ k < 4 ⌝ }
+    ensures { λ r. ⌜ (r ≡ getD (now (elements .entry)) (4 * n + k) 0) × (r < 2 ^ 32) ⌝ }
+{
+    if elements.len() <= n {
+        return 0;
+    }
+    let i = 4 * n + k;
+    if i < elements.len() {
+        return elements[i] as usize;
+    }
+    0
+}
+
+// The first byte of element n.
+pub fn first_byte(
+    document: &[u8],
+    elements: &[u32],
+    roles: &[u8],
+    kind: DocumentType,
+    n: usize,
+) -> usize
+    ensures { λ r. ⌜ r ≡ first (draft (now (document .entry)) (now (elements .entry)) (now (roles .entry)) kind) n ⌝ }
+{
+    number(elements, n, 2)
+}
+
+pub fn attribute_is(
+    document: &[u8],
+    elements: &[u32],
+    roles: &[u8],
+    kind: DocumentType,
+    n: usize,
+    name: &[u8],
+    wanted: &[u8],
+) -> bool
+    ensures { λ r. ⌜ r ≡ equal (attribute (draft (now (document .entry)) (now (elements .entry)) (now (roles .entry)) kind) n (now (name .entry))) (now (wanted .entry)) ⌝ }
 {
     let mut room = [0u8; 4096];
+    let first = first_byte(document, elements, roles, kind, n);
     facts::same(values::attribute(document, first, name, &mut room), wanted)
 }
 
-pub fn attribute_begins(document: &[u8], first: usize, name: &[u8], start: &[u8]) -> bool
-    ensures { λ r. ⌜ r ≡ beginsWith (now (start .entry)) (attributeOf (now (document .entry)) first (now (name .entry))) ⌝ }
+pub fn attribute_begins(
+    document: &[u8],
+    elements: &[u32],
+    roles: &[u8],
+    kind: DocumentType,
+    n: usize,
+    name: &[u8],
+    start: &[u8],
+) -> bool
+    ensures { λ r. ⌜ r ≡ beginsWith (now (start .entry)) (attribute (draft (now (document .entry)) (now (elements .entry)) (now (roles .entry)) kind) n (now (name .entry))) ⌝ }
 {
     let mut room = [0u8; 4096];
+    let first = first_byte(document, elements, roles, kind, n);
     facts::begins_with(values::attribute(document, first, name, &mut room), start)
 }
 
-pub fn attribute_is_empty(document: &[u8], first: usize, name: &[u8]) -> bool
-    ensures { λ r. ⌜ r ≡ isEmpty (attributeOf (now (document .entry)) first (now (name .entry))) ⌝ }
+pub fn attribute_is_empty(
+    document: &[u8],
+    elements: &[u32],
+    roles: &[u8],
+    kind: DocumentType,
+    n: usize,
+    name: &[u8],
+) -> bool
+    ensures { λ r. ⌜ r ≡ isEmpty (attribute (draft (now (document .entry)) (now (elements .entry)) (now (roles .entry)) kind) n (now (name .entry))) ⌝ }
 {
     let mut room = [0u8; 4096];
+    let first = first_byte(document, elements, roles, kind, n);
     values::attribute(document, first, name, &mut room).len() == 0
 }
 
-pub fn attribute_without_space(document: &[u8], first: usize, name: &[u8]) -> bool
-    ensures { λ r. ⌜ r ≡ withoutSpace (attributeOf (now (document .entry)) first (now (name .entry))) ⌝ }
+pub fn attribute_without_space(
+    document: &[u8],
+    elements: &[u32],
+    roles: &[u8],
+    kind: DocumentType,
+    n: usize,
+    name: &[u8],
+) -> bool
+    ensures { λ r. ⌜ r ≡ withoutSpace (attribute (draft (now (document .entry)) (now (elements .entry)) (now (roles .entry)) kind) n (now (name .entry))) ⌝ }
 {
     let mut room = [0u8; 4096];
+    let first = first_byte(document, elements, roles, kind, n);
     facts::without_space(values::attribute(document, first, name, &mut room))
 }
 
-pub fn attribute_is_guid(document: &[u8], first: usize, name: &[u8]) -> bool
-    ensures { λ r. ⌜ r ≡ isGuid (attributeOf (now (document .entry)) first (now (name .entry))) ⌝ }
+pub fn attribute_is_guid(
+    document: &[u8],
+    elements: &[u32],
+    roles: &[u8],
+    kind: DocumentType,
+    n: usize,
+    name: &[u8],
+) -> bool
+    ensures { λ r. ⌜ r ≡ isGuid (attribute (draft (now (document .entry)) (now (elements .entry)) (now (roles .entry)) kind) n (now (name .entry))) ⌝ }
 {
     let mut room = [0u8; 4096];
+    let first = first_byte(document, elements, roles, kind, n);
     facts::is_guid(values::attribute(document, first, name, &mut room))
 }
 
-pub fn attribute_is_day(document: &[u8], first: usize, name: &[u8]) -> bool
-    ensures { λ r. ⌜ r ≡ isDay (attributeOf (now (document .entry)) first (now (name .entry))) ⌝ }
+pub fn attribute_is_day(
+    document: &[u8],
+    elements: &[u32],
+    roles: &[u8],
+    kind: DocumentType,
+    n: usize,
+    name: &[u8],
+) -> bool
+    ensures { λ r. ⌜ r ≡ isDay (attribute (draft (now (document .entry)) (now (elements .entry)) (now (roles .entry)) kind) n (now (name .entry))) ⌝ }
 {
     let mut room = [0u8; 4096];
+    let first = first_byte(document, elements, roles, kind, n);
     facts::is_day(values::attribute(document, first, name, &mut room))
 }
 
-pub fn attribute_version(document: &[u8], first: usize, name: &[u8]) -> u32
-    ensures { λ r. ⌜ r ≡ versionOf (attributeOf (now (document .entry)) first (now (name .entry))) ⌝ }
+pub fn attribute_version(
+    document: &[u8],
+    elements: &[u32],
+    roles: &[u8],
+    kind: DocumentType,
+    n: usize,
+    name: &[u8],
+) -> u32
+    ensures { λ r. ⌜ r ≡ versionOf (attribute (draft (now (document .entry)) (now (elements .entry)) (now (roles .entry)) kind) n (now (name .entry))) ⌝ }
 {
     let mut room = [0u8; 4096];
+    let first = first_byte(document, elements, roles, kind, n);
     facts::version(values::attribute(document, first, name, &mut room))
 }
 
-pub fn attribute_is_labeler_code(document: &[u8], first: usize, name: &[u8]) -> bool
-    ensures { λ r. ⌜ r ≡ isLabelerCode (attributeOf (now (document .entry)) first (now (name .entry))) ⌝ }
+pub fn attribute_is_labeler_code(
+    document: &[u8],
+    elements: &[u32],
+    roles: &[u8],
+    kind: DocumentType,
+    n: usize,
+    name: &[u8],
+) -> bool
+    ensures { λ r. ⌜ r ≡ isLabelerCode (attribute (draft (now (document .entry)) (now (elements .entry)) (now (roles .entry)) kind) n (now (name .entry))) ⌝ }
 {
     let mut room = [0u8; 4096];
+    let first = first_byte(document, elements, roles, kind, n);
     facts::is_labeler_code(values::attribute(document, first, name, &mut room))
 }
 
-pub fn attribute_is_telephone(document: &[u8], first: usize, name: &[u8]) -> bool
-    ensures { λ r. ⌜ r ≡ isTelephone (attributeOf (now (document .entry)) first (now (name .entry))) ⌝ }
+pub fn attribute_is_telephone(
+    document: &[u8],
+    elements: &[u32],
+    roles: &[u8],
+    kind: DocumentType,
+    n: usize,
+    name: &[u8],
+) -> bool
+    ensures { λ r. ⌜ r ≡ isTelephone (attribute (draft (now (document .entry)) (now (elements .entry)) (now (roles .entry)) kind) n (now (name .entry))) ⌝ }
 {
     let mut room = [0u8; 4096];
+    let first = first_byte(document, elements, roles, kind, n);
     facts::is_telephone(values::attribute(document, first, name, &mut room))
 }
 
-pub fn text_is(document: &[u8], first: usize, wanted: &[u8]) -> bool
-    ensures { λ r. ⌜ r ≡ equal (textOf (now (document .entry)) first) (now (wanted .entry)) ⌝ }
+pub fn text_is(
+    document: &[u8],
+    elements: &[u32],
+    roles: &[u8],
+    kind: DocumentType,
+    n: usize,
+    wanted: &[u8],
+) -> bool
+    ensures { λ r. ⌜ r ≡ equal (said (draft (now (document .entry)) (now (elements .entry)) (now (roles .entry)) kind) n) (now (wanted .entry)) ⌝ }
 {
     let mut room = [0u8; 4096];
+    let first = first_byte(document, elements, roles, kind, n);
     facts::same(values::text(document, first, &mut room), wanted)
 }
 
-pub fn text_is_empty(document: &[u8], first: usize) -> bool
-    ensures { λ r. ⌜ r ≡ isEmpty (textOf (now (document .entry)) first) ⌝ }
+pub fn text_is_empty(
+    document: &[u8],
+    elements: &[u32],
+    roles: &[u8],
+    kind: DocumentType,
+    n: usize,
+) -> bool
+    ensures { λ r. ⌜ r ≡ isEmpty (said (draft (now (document .entry)) (now (elements .entry)) (now (roles .entry)) kind) n) ⌝ }
 {
     let mut room = [0u8; 4096];
+    let first = first_byte(document, elements, roles, kind, n);
     values::text(document, first, &mut room).len() == 0
 }

@@ -105,6 +105,7 @@ turn-kept s r t w e = go (ltb (r .at) (length s)) refl (pieceAt s (r .at) (partO
 -- the rows of a document that is not refused
 pub record Rows (s : List ℕ) (n : ℕ) (rows : List ℕ) : Type 0 where
   pub rooted : 0 < n
+  pub few : n ≤ 16384
   pub wide : length rows ≡ 4 * n
   pub low : (k : ℕ) → getD rows k 0 ≤ length s
   pub ordered : Ordered rows n
@@ -120,11 +121,13 @@ end-rows s r w =
     let z : r .depth ≡ 0 = eqb-true (r .depth) 0 (and-left (eqb (r .depth) 0) (ltb 0 (r .count)) e) in
     record {
       rooted = ltb-true 0 (r .count) (and-right (eqb (r .depth) 0) (ltb 0 (r .count)) e);
+      few = w .0 .few;
       wide = w .0 .wide;
       low = λ k. omega (arith, w .0 .low k, w .0 .within);
       ordered =
           record {
             room = omega (arith, w .0 .wide);
+            root = omega (arith, w .0 .above 0);
             earlier = w .1 .earlier;
             rises = w .1 .rises;
             ends = w .1 .ends;
@@ -148,6 +151,9 @@ read-rows s =
     (λ _. pick-case (ReadRows s) (ltb (firstBad s) (length s)) _ _ (λ _. tt)
     (λ _. run-keeps (turn s) (refused 7 (length s)) (left s) (turn-falls s) (Kept (length s)) (ReadRows s) (λ r t w e. turn-kept s r t w e) (λ r x w e. turn-rows s r x w e) fresh (fresh-kept (length s))))
 
+pub rows-read : (s : List ℕ) (n : ℕ) (rows : List ℕ) → elementsOf s ≡ elements n rows → Rows s n rows
+rows-read s n rows e = subst (ReadRows s) e (read-rows s)
+
 -- ---- the lent table
 -- the rows in the front of a table
 module _ (s rows rest : List ℕ) (n : ℕ) (w : Rows s n rows) where
@@ -158,6 +164,7 @@ module _ (s rows rest : List ℕ) (n : ℕ) (w : Rows s n rows) where
   front-ordered =
       record {
         room = omega (arith, length-append rows rest, w .wide);
+        root = rw (same 0 1 (w .rooted) (omega arith)) (w .ordered .root);
         earlier = λ k h g. rw (same k 1 g (omega arith)) (w .ordered .earlier k h g);
         rises = λ i k h g.
             let m : i < n = omega arith in

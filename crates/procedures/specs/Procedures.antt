@@ -1,61 +1,61 @@
 -- The 38 procedures by their numbers: what each demands of an element, from the document alone.
 -- Assumes nothing.
-use Prim.Native.Nat.{ℕ, _-_}
+use Prim.Native.Nat.{ℕ}
 use mathlib.Core.List.{List, [], _∷_}
 use lib.ListN.{getD}
 use Rattle.drafts.specs.declared.Demand.{Demand}
 use Rattle.drafts.specs.declared.Demand.the-variants.{Nothing}
 use Rattle.drafts.specs.Drafts.{Draft}
-use Rattle.procedures.specs.Header.{demand1, demand2, demand3, demand4, demand5, demand6, demand7, demand8, demand9, demand10, demand11, demand12, demand13}
-use Rattle.procedures.specs.Organisations.{demand14, demand15, demand16, demand17, demand18, demand19, demand20, demand21, demand22}
-use Rattle.procedures.specs.Contacts.{demand23, demand24, demand25, demand26, demand27, demand28, demand29, demand30}
-use Rattle.procedures.specs.Registrations.{demand31, demand32, demand33, demand34, demand35, demand36, demand37, demand38}
+use Rattle.drafts.specs.Demands.{brokenIf}
+use Rattle.header.specs.declared.Header.{Header}
+use Rattle.header.specs.Header.{breaks1, breaks2, breaks3, breaks4, breaks5, demand6, breaks7, demand8, breaks9, breaks10, breaks11, demand12, breaks13}
+use Rattle.organisations.specs.Organisations.{breaks14, breaks15, breaks16, breaks17, demand18, breaks19, breaks20, demand21, demand22}
+use Rattle.contacts.specs.Contacts.{breaks23, breaks24, breaks25, breaks26, breaks27, breaks28, breaks29, breaks30}
+use Rattle.registrations.specs.Registrations.{breaks31, breaks32, breaks33, demand34, breaks35, breaks36, breaks37, breaks38}
 
-abbrev pub lastProcedure : ℕ
-lastProcedure = 38
-
-abbrev pub procedures : List (Draft → ℕ → Demand)
-procedures =
-    demand1
-    ∷ demand2
-    ∷ demand3
-    ∷ demand4
-    ∷ demand5
-    ∷ demand6
-    ∷ demand7
-    ∷ demand8
-    ∷ demand9
-    ∷ demand10
-    ∷ demand11
-    ∷ demand12
-    ∷ demand13
-    ∷ demand14
-    ∷ demand15
-    ∷ demand16
-    ∷ demand17
-    ∷ demand18
-    ∷ demand19
-    ∷ demand20
-    ∷ demand21
-    ∷ demand22
-    ∷ demand23
-    ∷ demand24
-    ∷ demand25
-    ∷ demand26
-    ∷ demand27
-    ∷ demand28
-    ∷ demand29
-    ∷ demand30
-    ∷ demand31
-    ∷ demand32
-    ∷ demand33
-    ∷ demand34
-    ∷ demand35
-    ∷ demand36
-    ∷ demand37
-    ∷ demand38
+-- what the procedures 1 to 38 demand of element n
+abbrev pub demands : Draft → Header → ℕ → List Demand
+demands d h n =
+    brokenIf (breaks1 d n)
+    ∷ brokenIf (breaks2 d n)
+    ∷ brokenIf (breaks3 d n)
+    ∷ brokenIf (breaks4 d n)
+    ∷ brokenIf (breaks5 d h n)
+    ∷ demand6 d h n
+    ∷ brokenIf (breaks7 d h n)
+    ∷ demand8 d h n
+    ∷ brokenIf (breaks9 d h n)
+    ∷ brokenIf (breaks10 d h n)
+    ∷ brokenIf (breaks11 d h n)
+    ∷ demand12 d h n
+    ∷ brokenIf (breaks13 d h n)
+    ∷ brokenIf (breaks14 d n)
+    ∷ brokenIf (breaks15 d n)
+    ∷ brokenIf (breaks16 d n)
+    ∷ brokenIf (breaks17 d n)
+    ∷ demand18 d n
+    ∷ brokenIf (breaks19 d n)
+    ∷ brokenIf (breaks20 d n)
+    ∷ demand21 d h n
+    ∷ demand22 d h n
+    ∷ brokenIf (breaks23 d n)
+    ∷ brokenIf (breaks24 d n)
+    ∷ brokenIf (breaks25 d n)
+    ∷ brokenIf (breaks26 d n)
+    ∷ brokenIf (breaks27 d n)
+    ∷ brokenIf (breaks28 d n)
+    ∷ brokenIf (breaks29 d n)
+    ∷ brokenIf (breaks30 d n)
+    ∷ brokenIf (breaks31 d n)
+    ∷ brokenIf (breaks32 d n)
+    ∷ brokenIf (breaks33 d n)
+    ∷ demand34 d n
+    ∷ brokenIf (breaks35 d n)
+    ∷ brokenIf (breaks36 d n)
+    ∷ brokenIf (breaks37 d n)
+    ∷ brokenIf (breaks38 d n)
     ∷ []
 
 -- what procedure p demands of element n; there is no procedure 0, and none past the last
-unfoldable pub demandOf : Draft → ℕ → ℕ → Demand
-demandOf d p n = getD ((λ _ _. Nothing) ∷ procedures) p (λ _ _. Nothing) d n
+unfoldable pub demandOf : Draft → Header → ℕ → ℕ → Demand
+demandOf d h p n = getD (Nothing ∷ demands d h n) p Nothing

@@ -1,1 +1,1 @@
-// The procedures. What each demands of an element is defined in specs/.
+// The 38 procedures by their numbers.

@@ -1,8 +1,12 @@
--- `drafts::tests::attribute_begins` meets its contract: the test is made of the part that shows the value.
+-- `drafts::tests::attribute_begins` meets its contract.
 -- Assumes nothing.
+use Rattle.drafts.proofs.Values.{attribute-begins}
 use borrow.Author.Needs.{needs}
 use Rattle.drafts.proofs.tests.attribute_begins.Statement.{statement}
 use Rattle.drafts.proofs.tests.attribute_begins.Tie as tie
+
+first-byte-requires : tie.Need-first-byte-requires
+first-byte-requires c κs = search needs
 
 slice-aggregate-attribute : tie.Need-slice-aggregate-attribute
 slice-aggregate-attribute c = search needs
@@ -14,8 +18,14 @@ begins-with-requires : tie.Need-begins-with-requires
 begins-with-requires c κs = search needs
 
 returns : tie.Need-returns
-returns c = rw (c .before .before .attribute .ensures) at (c .before .begins-with .ensures)
+returns c = search attribute-begins
 
 pub attribute-begins-spec : {M : Type 1} → statement M
 attribute-begins-spec =
-    tie.close (tie.spec slice-aggregate-attribute attribute-requires begins-with-requires returns)
+    tie.close
+    (tie.spec
+    first-byte-requires
+    slice-aggregate-attribute
+    attribute-requires
+    begins-with-requires
+    returns)

@@ -1,8 +1,12 @@
--- `drafts::tests::attribute_is` meets its contract: the test is made of the part that shows the value.
+-- `drafts::tests::attribute_is` meets its contract.
 -- Assumes nothing.
+use Rattle.drafts.proofs.Values.{attribute-equals}
 use borrow.Author.Needs.{needs}
 use Rattle.drafts.proofs.tests.attribute_is.Statement.{statement}
 use Rattle.drafts.proofs.tests.attribute_is.Tie as tie
+
+first-byte-requires : tie.Need-first-byte-requires
+first-byte-requires c κs = search needs
 
 slice-aggregate-attribute : tie.Need-slice-aggregate-attribute
 slice-aggregate-attribute c = search needs
@@ -14,8 +18,14 @@ same-requires : tie.Need-same-requires
 same-requires c κs = search needs
 
 returns : tie.Need-returns
-returns c = rw (c .before .before .attribute .ensures) at (c .before .same .ensures)
+returns c = search attribute-equals
 
 pub attribute-is-spec : {M : Type 1} → statement M
 attribute-is-spec =
-    tie.close (tie.spec slice-aggregate-attribute attribute-requires same-requires returns)
+    tie.close
+    (tie.spec
+    first-byte-requires
+    slice-aggregate-attribute
+    attribute-requires
+    same-requires
+    returns)

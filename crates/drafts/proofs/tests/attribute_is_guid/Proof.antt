@@ -1,8 +1,13 @@
--- `drafts::tests::attribute_is_guid` meets its contract: the test is made of the part that shows the value.
+-- `drafts::tests::attribute_is_guid` meets its contract.
 -- Assumes nothing.
+use Rattle.facts.specs.Strings.{isGuid}
+use Rattle.drafts.proofs.Values.{attribute-tested}
 use borrow.Author.Needs.{needs}
 use Rattle.drafts.proofs.tests.attribute_is_guid.Statement.{statement}
 use Rattle.drafts.proofs.tests.attribute_is_guid.Tie as tie
+
+first-byte-requires : tie.Need-first-byte-requires
+first-byte-requires c κs = search needs
 
 slice-aggregate-attribute : tie.Need-slice-aggregate-attribute
 slice-aggregate-attribute c = search needs
@@ -14,8 +19,14 @@ is-guid-requires : tie.Need-is-guid-requires
 is-guid-requires c κs = search needs
 
 returns : tie.Need-returns
-returns c = rw (c .before .before .attribute .ensures) at (c .before .is-guid .ensures)
+returns c = search (attribute-tested isGuid)
 
 pub attribute-is-guid-spec : {M : Type 1} → statement M
 attribute-is-guid-spec =
-    tie.close (tie.spec slice-aggregate-attribute attribute-requires is-guid-requires returns)
+    tie.close
+    (tie.spec
+    first-byte-requires
+    slice-aggregate-attribute
+    attribute-requires
+    is-guid-requires
+    returns)

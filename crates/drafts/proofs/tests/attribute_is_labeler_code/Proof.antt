@@ -1,8 +1,13 @@
--- `drafts::tests::attribute_is_labeler_code` meets its contract: the test is made of the part that shows the value.
+-- `drafts::tests::attribute_is_labeler_code` meets its contract.
 -- Assumes nothing.
+use Rattle.facts.specs.Strings.{isLabelerCode}
+use Rattle.drafts.proofs.Values.{attribute-tested}
 use borrow.Author.Needs.{needs}
 use Rattle.drafts.proofs.tests.attribute_is_labeler_code.Statement.{statement}
 use Rattle.drafts.proofs.tests.attribute_is_labeler_code.Tie as tie
+
+first-byte-requires : tie.Need-first-byte-requires
+first-byte-requires c κs = search needs
 
 slice-aggregate-attribute : tie.Need-slice-aggregate-attribute
 slice-aggregate-attribute c = search needs
@@ -14,9 +19,14 @@ is-labeler-code-requires : tie.Need-is-labeler-code-requires
 is-labeler-code-requires c κs = search needs
 
 returns : tie.Need-returns
-returns c = rw (c .before .before .attribute .ensures) at (c .before .is-labeler-code .ensures)
+returns c = search (attribute-tested isLabelerCode)
 
 pub attribute-is-labeler-code-spec : {M : Type 1} → statement M
 attribute-is-labeler-code-spec =
     tie.close
-    (tie.spec slice-aggregate-attribute attribute-requires is-labeler-code-requires returns)
+    (tie.spec
+    first-byte-requires
+    slice-aggregate-attribute
+    attribute-requires
+    is-labeler-code-requires
+    returns)

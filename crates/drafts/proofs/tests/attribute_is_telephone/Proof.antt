@@ -1,8 +1,13 @@
--- `drafts::tests::attribute_is_telephone` meets its contract: the test is made of the part that shows the value.
+-- `drafts::tests::attribute_is_telephone` meets its contract.
 -- Assumes nothing.
+use Rattle.facts.specs.Telephones.{isTelephone}
+use Rattle.drafts.proofs.Values.{attribute-tested}
 use borrow.Author.Needs.{needs}
 use Rattle.drafts.proofs.tests.attribute_is_telephone.Statement.{statement}
 use Rattle.drafts.proofs.tests.attribute_is_telephone.Tie as tie
+
+first-byte-requires : tie.Need-first-byte-requires
+first-byte-requires c κs = search needs
 
 slice-aggregate-attribute : tie.Need-slice-aggregate-attribute
 slice-aggregate-attribute c = search needs
@@ -14,8 +19,14 @@ is-telephone-requires : tie.Need-is-telephone-requires
 is-telephone-requires c κs = search needs
 
 returns : tie.Need-returns
-returns c = rw (c .before .before .attribute .ensures) at (c .before .is-telephone .ensures)
+returns c = search (attribute-tested isTelephone)
 
 pub attribute-is-telephone-spec : {M : Type 1} → statement M
 attribute-is-telephone-spec =
-    tie.close (tie.spec slice-aggregate-attribute attribute-requires is-telephone-requires returns)
+    tie.close
+    (tie.spec
+    first-byte-requires
+    slice-aggregate-attribute
+    attribute-requires
+    is-telephone-requires
+    returns)

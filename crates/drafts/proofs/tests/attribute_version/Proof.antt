@@ -1,8 +1,13 @@
--- `drafts::tests::attribute_version` meets its contract: the test is made of the part that shows the value.
+-- `drafts::tests::attribute_version` meets its contract.
 -- Assumes nothing.
+use Rattle.facts.specs.Numbers.{versionOf}
+use Rattle.drafts.proofs.Values.{attribute-tested}
 use borrow.Author.Needs.{needs}
 use Rattle.drafts.proofs.tests.attribute_version.Statement.{statement}
 use Rattle.drafts.proofs.tests.attribute_version.Tie as tie
+
+first-byte-requires : tie.Need-first-byte-requires
+first-byte-requires c κs = search needs
 
 slice-aggregate-attribute : tie.Need-slice-aggregate-attribute
 slice-aggregate-attribute c = search needs
@@ -14,8 +19,14 @@ version-requires : tie.Need-version-requires
 version-requires c κs = search needs
 
 returns : tie.Need-returns
-returns c = rw (c .before .before .attribute .ensures) at (c .before .version .ensures)
+returns c = search (attribute-tested versionOf)
 
 pub attribute-version-spec : {M : Type 1} → statement M
 attribute-version-spec =
-    tie.close (tie.spec slice-aggregate-attribute attribute-requires version-requires returns)
+    tie.close
+    (tie.spec
+    first-byte-requires
+    slice-aggregate-attribute
+    attribute-requires
+    version-requires
+    returns)

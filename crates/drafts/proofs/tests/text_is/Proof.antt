@@ -1,8 +1,12 @@
--- `drafts::tests::text_is` meets its contract: the test is made of the part that shows the value.
+-- `drafts::tests::text_is` meets its contract.
 -- Assumes nothing.
+use Rattle.drafts.proofs.Values.{text-equals}
 use borrow.Author.Needs.{needs}
 use Rattle.drafts.proofs.tests.text_is.Statement.{statement}
 use Rattle.drafts.proofs.tests.text_is.Tie as tie
+
+first-byte-requires : tie.Need-first-byte-requires
+first-byte-requires c κs = search needs
 
 slice-aggregate-text : tie.Need-slice-aggregate-text
 slice-aggregate-text c = search needs
@@ -14,7 +18,9 @@ same-requires : tie.Need-same-requires
 same-requires c κs = search needs
 
 returns : tie.Need-returns
-returns c = rw (c .before .before .text .ensures) at (c .before .same .ensures)
+returns c = search text-equals
 
 pub text-is-spec : {M : Type 1} → statement M
-text-is-spec = tie.close (tie.spec slice-aggregate-text text-requires same-requires returns)
+text-is-spec =
+    tie.close
+    (tie.spec first-byte-requires slice-aggregate-text text-requires same-requires returns)

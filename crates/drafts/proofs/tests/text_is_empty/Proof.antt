@@ -1,10 +1,13 @@
--- `drafts::tests::text_is_empty` meets its contract: the test is made of the part that shows the value.
+-- `drafts::tests::text_is_empty` meets its contract.
 -- Assumes nothing.
-use mathlib.Core.Path.{ap}
 use Rattle.drafts.specs.Drafts.{isEmpty}
+use Rattle.drafts.proofs.Values.{text-tested}
 use borrow.Author.Needs.{needs}
 use Rattle.drafts.proofs.tests.text_is_empty.Statement.{statement}
 use Rattle.drafts.proofs.tests.text_is_empty.Tie as tie
+
+first-byte-requires : tie.Need-first-byte-requires
+first-byte-requires c κs = search needs
 
 slice-aggregate-text : tie.Need-slice-aggregate-text
 slice-aggregate-text c = search needs
@@ -13,7 +16,8 @@ text-requires : tie.Need-text-requires
 text-requires c κs = search needs
 
 returns : tie.Need-returns
-returns c = ap isEmpty (c .before .text .ensures)
+returns c = search (text-tested isEmpty)
 
 pub text-is-empty-spec : {M : Type 1} → statement M
-text-is-empty-spec = tie.close (tie.spec slice-aggregate-text text-requires returns)
+text-is-empty-spec =
+    tie.close (tie.spec first-byte-requires slice-aggregate-text text-requires returns)

@@ -1,0 +1,51 @@
+-- `answers::has_key_of` meets its contract.
+-- Assumes nothing.
+use Rattle.answers.proofs.Asked.{key-asked}
+use borrow.Author.Needs.{needs}
+use Rattle.answers.proofs.has_key_of.Statement.{statement}
+use Rattle.answers.proofs.has_key_of.Tie as tie
+
+first-byte-requires : tie.Need-first-byte-requires
+first-byte-requires c κs = search needs
+
+first-byte-requires-2 : tie.Need-first-byte-requires-2
+first-byte-requires-2 c κs = search needs
+
+slice-aggregate-attribute : tie.Need-slice-aggregate-attribute
+slice-aggregate-attribute c = search needs
+
+slice-aggregate-attribute-2 : tie.Need-slice-aggregate-attribute-2
+slice-aggregate-attribute-2 c = search needs
+
+attribute-requires : tie.Need-attribute-requires
+attribute-requires c κs = search needs
+
+slice-aggregate-attribute-3 : tie.Need-slice-aggregate-attribute-3
+slice-aggregate-attribute-3 c = search needs
+
+slice-aggregate-attribute-4 : tie.Need-slice-aggregate-attribute-4
+slice-aggregate-attribute-4 c = search needs
+
+attribute-requires-2 : tie.Need-attribute-requires-2
+attribute-requires-2 c κs = search needs
+
+has-key-elsewhere-requires : tie.Need-has-key-elsewhere-requires
+has-key-elsewhere-requires c κs = search needs
+
+returns : tie.Need-returns
+returns c = search key-asked
+
+pub has-key-of-spec : {M : Type 1} → statement M
+has-key-of-spec =
+    tie.close
+    (tie.spec
+    first-byte-requires
+    first-byte-requires-2
+    slice-aggregate-attribute
+    slice-aggregate-attribute-2
+    attribute-requires
+    slice-aggregate-attribute-3
+    slice-aggregate-attribute-4
+    attribute-requires-2
+    has-key-elsewhere-requires
+    returns)

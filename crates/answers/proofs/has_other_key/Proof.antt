@@ -1,0 +1,55 @@
+-- `answers::has_other_key` meets its contract.
+-- Assumes nothing.
+use Rattle.answers.proofs.Asked.{other-asked}
+use borrow.Author.Needs.{needs}
+use Rattle.answers.proofs.has_other_key.Statement.{statement}
+use Rattle.answers.proofs.has_other_key.Tie as tie
+
+first-byte-requires : tie.Need-first-byte-requires
+first-byte-requires c κs = search needs
+
+first-byte-requires-2 : tie.Need-first-byte-requires-2
+first-byte-requires-2 c κs = search needs
+
+slice-aggregate-attribute : tie.Need-slice-aggregate-attribute
+slice-aggregate-attribute c = search needs
+
+slice-aggregate-attribute-2 : tie.Need-slice-aggregate-attribute-2
+slice-aggregate-attribute-2 c = search needs
+
+attribute-requires : tie.Need-attribute-requires
+attribute-requires c κs = search needs
+
+slice-aggregate-attribute-3 : tie.Need-slice-aggregate-attribute-3
+slice-aggregate-attribute-3 c = search needs
+
+slice-aggregate-attribute-4 : tie.Need-slice-aggregate-attribute-4
+slice-aggregate-attribute-4 c = search needs
+
+attribute-requires-2 : tie.Need-attribute-requires-2
+attribute-requires-2 c κs = search needs
+
+slice-aggregate-has-other-key : tie.Need-slice-aggregate-has-other-key
+slice-aggregate-has-other-key c = search needs
+
+has-other-key-requires : tie.Need-has-other-key-requires
+has-other-key-requires c κs = search needs
+
+returns : tie.Need-returns
+returns c = search other-asked
+
+pub has-other-key-spec : {M : Type 1} → statement M
+has-other-key-spec =
+    tie.close
+    (tie.spec
+    first-byte-requires
+    first-byte-requires-2
+    slice-aggregate-attribute
+    slice-aggregate-attribute-2
+    attribute-requires
+    slice-aggregate-attribute-3
+    slice-aggregate-attribute-4
+    attribute-requires-2
+    slice-aggregate-has-other-key
+    has-other-key-requires
+    returns)

@@ -1,0 +1,265 @@
+// Whether a demand is broken under the tables.
+ghost use mathlib.Core.Path.{_≡_};
+ghost use Rattle.scan.specs.Bytes.{text};
+ghost use Rattle.lines.specs.Lines.{rowsAt};
+ghost use Rattle.rows.specs.Rows.{someRow, isCode, isName, isDocument, isVersion, isKeyElsewhere, isOtherKey};
+ghost use Rattle.drafts.specs.Drafts.{draft, attribute, said};
+ghost use Rattle.header.specs.Header.{requestCode};
+ghost use Rattle.answers.specs.Answers.{typeCode, tablesAt, isBroken};
+use drafts::Demand;
+use drafts::first_byte;
+use paths::DocumentType;
+
+// Where the rows of each section of a tables file stand, and how many there are.
+pub struct Places {
+    pub codes: usize,
+    pub ncodes: usize,
+    pub names: usize,
+    pub nnames: usize,
+    pub history: usize,
+    pub nhistory: usize,
+}
+
+// Whether a row of the code list has the code, system and display name of element k.
+fn has_code(
+    document: &[u8],
+    elements: &[u32],
+    roles: &[u8],
+    kind: DocumentType,
+    tables: &[u8],
+    places: Places,
+    k: usize,
+) -> bool
+    ensures { λ r. ⌜ r ≡ someRow (isCode (attribute (draft (now (document .entry)) (now (elements .entry)) (now (roles .entry)) kind) k (text "code")) (attribute (draft (now (document .entry)) (now (elements .entry)) (now (roles .entry)) kind) k (text "codeSystem")) (attribute (draft (now (document .entry)) (now (elements .entry)) (now (roles .entry)) kind) k (text "displayName"))) (rowsAt (now (tables .entry)) (places .codes) (places .ncodes)) ⌝ }
+{
+    let mut room0 = [0u8; 4096];
+    let mut room1 = [0u8; 4096];
+    let mut room2 = [0u8; 4096];
+    let at0 = first_byte(document, elements, roles, kind, k);
+    let value0 = values::attribute(document, at0, b"code", &mut room0);
+    let value1 = values::attribute(document, at0, b"codeSystem", &mut room1);
+    let value2 = values::attribute(document, at0, b"displayName", &mut room2);
+    rows::has_code(tables, places.codes, places.ncodes, value0, value1, value2)
+}
+
+// Whether a row of the register has the number of id i and the name k.
+fn has_name(
+    document: &[u8],
+    elements: &[u32],
+    roles: &[u8],
+    kind: DocumentType,
+    tables: &[u8],
+    places: Places,
+    i: usize,
+    k: usize,
+) -> bool
+    ensures { λ r. ⌜ r ≡ someRow (isName (attribute (draft (now (document .entry)) (now (elements .entry)) (now (roles .entry)) kind) i (text "extension")) (said (draft (now (document .entry)) (now (elements .entry)) (now (roles .entry)) kind) k)) (rowsAt (now (tables .entry)) (places .names) (places .nnames)) ⌝ }
+{
+    let mut room0 = [0u8; 4096];
+    let mut room1 = [0u8; 4096];
+    let at0 = first_byte(document, elements, roles, kind, i);
+    let at1 = first_byte(document, elements, roles, kind, k);
+    let value0 = values::attribute(document, at0, b"extension", &mut room0);
+    let value1 = values::text(document, at1, &mut room1);
+    rows::has_name(tables, places.names, places.nnames, value0, value1)
+}
+
+// Whether a row of the history has the document id k.
+fn has_document(
+    document: &[u8],
+    elements: &[u32],
+    roles: &[u8],
+    kind: DocumentType,
+    tables: &[u8],
+    places: Places,
+    k: usize,
+) -> bool
+    ensures { λ r. ⌜ r ≡ someRow (isDocument (attribute (draft (now (document .entry)) (now (elements .entry)) (now (roles .entry)) kind) k (text "root"))) (rowsAt (now (tables .entry)) (places .history) (places .nhistory)) ⌝ }
+{
+    let mut room0 = [0u8; 4096];
+    let at0 = first_byte(document, elements, roles, kind, k);
+    let value0 = values::attribute(document, at0, b"root", &mut room0);
+    rows::has_document(tables, places.history, places.nhistory, value0)
+}
+
+// Whether a row of the history of the set id s has the version k or a higher one.
+fn has_version(
+    document: &[u8],
+    elements: &[u32],
+    roles: &[u8],
+    kind: DocumentType,
+    tables: &[u8],
+    places: Places,
+    s: usize,
+    k: usize,
+) -> bool
+    ensures { λ r. ⌜ r ≡ someRow (isVersion (attribute (draft (now (document .entry)) (now (elements .entry)) (now (roles .entry)) kind) s (text "root")) (attribute (draft (now (document .entry)) (now (elements .entry)) (now (roles .entry)) kind) k (text "value"))) (rowsAt (now (tables .entry)) (places .history) (places .nhistory)) ⌝ }
+{
+    let mut room0 = [0u8; 4096];
+    let mut room1 = [0u8; 4096];
+    let at0 = first_byte(document, elements, roles, kind, s);
+    let at1 = first_byte(document, elements, roles, kind, k);
+    let value0 = values::attribute(document, at0, b"root", &mut room0);
+    let value1 = values::attribute(document, at1, b"value", &mut room1);
+    rows::has_version(tables, places.history, places.nhistory, value0, value1)
+}
+
+// Whether a row of the history of this type has the key of id k under another set id than s.
+fn has_key_of(
+    document: &[u8],
+    elements: &[u32],
+    roles: &[u8],
+    kind: DocumentType,
+    tables: &[u8],
+    places: Places,
+    code: &[u8],
+    k: usize,
+    s: usize,
+) -> bool
+    ensures { λ r. ⌜ r ≡ someRow (isKeyElsewhere (now (code .entry)) (attribute (draft (now (document .entry)) (now (elements .entry)) (now (roles .entry)) kind) k (text "extension")) (attribute (draft (now (document .entry)) (now (elements .entry)) (now (roles .entry)) kind) s (text "root"))) (rowsAt (now (tables .entry)) (places .history) (places .nhistory)) ⌝ }
+{
+    let mut room0 = [0u8; 4096];
+    let mut room1 = [0u8; 4096];
+    let at0 = first_byte(document, elements, roles, kind, k);
+    let at1 = first_byte(document, elements, roles, kind, s);
+    let value0 = values::attribute(document, at0, b"extension", &mut room0);
+    let value1 = values::attribute(document, at1, b"root", &mut room1);
+    rows::has_key_elsewhere(
+        tables,
+        places.history,
+        places.nhistory,
+        code,
+        value0,
+        value1,
+    )
+}
+
+// The same of the document's own type.
+fn has_key_elsewhere(
+    document: &[u8],
+    elements: &[u32],
+    roles: &[u8],
+    kind: DocumentType,
+    tables: &[u8],
+    places: Places,
+    k: usize,
+    s: usize,
+) -> bool
+    ensures { λ r. ⌜ r ≡ someRow (isKeyElsewhere (typeCode kind) (attribute (draft (now (document .entry)) (now (elements .entry)) (now (roles .entry)) kind) k (text "extension")) (attribute (draft (now (document .entry)) (now (elements .entry)) (now (roles .entry)) kind) s (text "root"))) (rowsAt (now (tables .entry)) (places .history) (places .nhistory)) ⌝ }
+{
+    match kind {
+        DocumentType::Neither => has_key_of(
+            document,
+            elements,
+            roles,
+            kind,
+            tables,
+            places,
+            b"",
+            k,
+            s,
+        ),
+        DocumentType::Registration => has_key_of(
+            document,
+            elements,
+            roles,
+            kind,
+            tables,
+            places,
+            b"51725-0",
+            k,
+            s,
+        ),
+        DocumentType::Request => has_key_of(
+            document,
+            elements,
+            roles,
+            kind,
+            tables,
+            places,
+            b"51726-8",
+            k,
+            s,
+        ),
+    }
+}
+
+// Whether a row of the history of a request with the set id s has another key than that of id k.
+fn has_other_key(
+    document: &[u8],
+    elements: &[u32],
+    roles: &[u8],
+    kind: DocumentType,
+    tables: &[u8],
+    places: Places,
+    k: usize,
+    s: usize,
+) -> bool
+    ensures { λ r. ⌜ r ≡ someRow (isOtherKey requestCode (attribute (draft (now (document .entry)) (now (elements .entry)) (now (roles .entry)) kind) s (text "root")) (attribute (draft (now (document .entry)) (now (elements .entry)) (now (roles .entry)) kind) k (text "extension"))) (rowsAt (now (tables .entry)) (places .history) (places .nhistory)) ⌝ }
+{
+    let mut room0 = [0u8; 4096];
+    let mut room1 = [0u8; 4096];
+    let at0 = first_byte(document, elements, roles, kind, s);
+    let at1 = first_byte(document, elements, roles, kind, k);
+    let value0 = values::attribute(document, at0, b"root", &mut room0);
+    let value1 = values::attribute(document, at1, b"extension", &mut room1);
+    rows::has_other_key(
+        tables,
+        places.history,
+        places.nhistory,
+        b"51726-8",
+        value0,
+        value1,
+    )
+}
+
+// Whether the demand is broken under the tables.
+pub fn is_broken(
+    document: &[u8],
+    elements: &[u32],
+    roles: &[u8],
+    kind: DocumentType,
+    tables: &[u8],
+    places: Places,
+    demand: Demand,
+) -> bool
+    ensures { λ r. ⌜ r ≡ isBroken (draft (now (document .entry)) (now (elements .entry)) (now (roles .entry)) kind) (tablesAt (now (tables .entry)) places) demand ⌝ }
+{
+    match demand {
+        Demand::Nothing => false,
+        Demand::Broken => true,
+        Demand::CodeRow(k) => !has_code(document, elements, roles, kind, tables, places, k),
+        Demand::NameRow(i, k) => !has_name(document, elements, roles, kind, tables, places, i, k),
+        Demand::NoDocument(k) => has_document(document, elements, roles, kind, tables, places, k),
+        Demand::NoVersion(s, k) => has_version(
+            document,
+            elements,
+            roles,
+            kind,
+            tables,
+            places,
+            s,
+            k,
+        ),
+        Demand::NoKeyElsewhere(k, s) => has_key_elsewhere(
+            document,
+            elements,
+            roles,
+            kind,
+            tables,
+            places,
+            k,
+            s,
+        ),
+        Demand::NoOtherKey(k, s) => has_other_key(
+            document,
+            elements,
+            roles,
+            kind,
+            tables,
+            places,
+            k,
+            s,
+        ),
+    }
+}

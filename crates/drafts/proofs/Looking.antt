@@ -1,0 +1,248 @@
+-- The elements that are looked for below an element, by the branches of the loops over them: from one number to the next, up to the first
+-- that starts at or behind the end of the element.
+-- Assumes nothing.
+use mathlib.Core.Path.{_≡_, refl, sym, _∙_, ap}
+use mathlib.Core.Bool.{Bool, true, false}
+use mathlib.Core.List.{List, [], _∷_}
+use Prim.Native.Nat.{ℕ, zero, suc, _+_, _-_, _*_, _/_, _<_, _≤_, _^_}
+use native.Mathlib.Omega.{arith}
+use borrow.Author.Tests.{lt-ltb, le-ltb, eq-eqb, ne-eqb, ltb-true, ltb-false}
+use lib.Dec.{eqb, ltb}
+use lib.ListN.{length, getD}
+use mir.Val.{Fits}
+use mir.Syntax.{w64}
+use Rattle.scan.specs.Bytes.{text}
+use Rattle.scan.specs.Choice.{pick}
+use Rattle.scan.specs.declared.Found.{Found}
+use Rattle.scan.specs.declared.Found.the-variants.{At, Nothing}
+use Rattle.facts.specs.Strings.{equal, beginsWith}
+use Rattle.paths.specs.declared.DocumentType.{DocumentType}
+use Rattle.drafts.specs.declared.Test.{Test}
+use Rattle.drafts.specs.declared.Test.the-variants.{Any, DunsRoot, LabelerRoot, Telephone, Mail, Agent, Import, Empty}
+use Rattle.drafts.specs.declared.Wanted.{Wanted}
+use Rattle.drafts.specs.Drafts.{Draft, draft, count, parent, first, after, is, attribute, said, isEmpty}
+use Rattle.drafts.specs.Chosen.{dunsRoot, labelerRoot, agentCode, importCode, passes, ancestor, wants, inside, within, chosenFrom, chosen, firstOne, onlyOne}
+
+-- ---- an ancestor, by the branches of its loop
+module _ (d : Draft) (levels k at : ℕ) where
+  pub up : (left : ℕ) → ancestor d levels k ≡ ancestor d left at → 0 < left → (p : ℕ) → p ≡ parent d at → ancestor d levels k ≡ ancestor d (left - 1) p
+  unfolding ancestor
+  up zero l h p q = absurd (omega arith)
+  up (suc left) l h p q =
+      let z : suc left - 1 ≡ left = omega arith in
+      l ∙ rw (z, ← q)
+
+  pub here : (left : ℕ) → ancestor d levels k ≡ ancestor d left at → left ≤ 0 → at ≡ ancestor d levels k
+  unfolding ancestor
+  here zero l h = sym l
+  here (suc left) l h = absurd (omega arith)
+
+-- ---- a test
+module _ (d : Draft) (k : ℕ) (w : Test) where
+  pub passes-any : w ≡ Any → true ≡ passes d w k
+  unfolding passes
+  passes-any g = rw g
+
+  module _ (r : Bool) where
+    pub passes-duns : w ≡ DunsRoot → r ≡ equal (attribute d k (text "root")) dunsRoot → r ≡ passes d w k
+    unfolding passes
+    passes-duns g e = e ∙ rw g
+
+    pub passes-labeler : w ≡ LabelerRoot → r ≡ equal (attribute d k (text "root")) labelerRoot → r ≡ passes d w k
+    unfolding passes
+    passes-labeler g e = e ∙ rw g
+
+    pub passes-telephone : w ≡ Telephone → r ≡ beginsWith (text "tel:") (attribute d k (text "value")) → r ≡ passes d w k
+    unfolding passes
+    passes-telephone g e = e ∙ rw g
+
+    pub passes-mail : w ≡ Mail → r ≡ beginsWith (text "mailto:") (attribute d k (text "value")) → r ≡ passes d w k
+    unfolding passes
+    passes-mail g e = e ∙ rw g
+
+    pub passes-agent : w ≡ Agent → r ≡ equal (attribute d k (text "code")) agentCode → r ≡ passes d w k
+    unfolding passes
+    passes-agent g e = e ∙ rw g
+
+    pub passes-import : w ≡ Import → r ≡ equal (attribute d k (text "code")) importCode → r ≡ passes d w k
+    unfolding passes
+    passes-import g e = e ∙ rw g
+
+    pub passes-empty : w ≡ Empty → r ≡ isEmpty (said d k) → r ≡ passes d w k
+    unfolding passes
+    passes-empty g e = e ∙ rw g
+
+-- ---- whether an element is looked for
+module _ (d : Draft) (w : Wanted) (n k : ℕ) (b : Bool) (e : b ≡ is d (w .role) k) where
+  pub other-role : b ≡ false → false ≡ wants d w n k
+  unfolding wants
+  other-role f = rw (← e, f)
+
+  module _ (f : b ≡ true) (a : ℕ) (g : a ≡ ancestor d (w .levels) k) where
+    pub elsewhere : (a ≡ n → ⊥) → false ≡ wants d w n k
+    unfolding wants
+    elsewhere h = rw (← e, f, ← g, ne-eqb a n h)
+
+    pub there : a ≡ n → (r : Bool) → r ≡ passes d (w .test) k → r ≡ wants d w n k
+    unfolding wants
+    there h r i = i ∙ rw (← e, f, ← g, eq-eqb a n h)
+
+-- ---- the list from one number to the next
+module _ (d : Draft) (w : Wanted) (n : ℕ) where
+  step : (k m : ℕ) → count d - k ≡ suc m → chosenFrom d w n k ≡ pick (inside d n k) (pick (wants d w n k) (k ∷ within d w n (k + 1) m) (within d w n (k + 1) m)) []
+  unfolding chosenFrom within
+  step k m e = rw e
+
+  module _ (k : ℕ) (h : k < count d) where
+    m : ℕ
+    m = count d - (k + 1)
+
+    left : count d - k ≡ suc (count d - (k + 1))
+    left = omega arith
+
+    is-over : after d n ≤ first d k → chosenFrom d w n k ≡ []
+    is-over g = step k (count d - (k + 1)) left ∙ rw (le-ltb (first d k) (after d n) g)
+
+    module _ (i : first d k < after d n) where
+      is-next : wants d w n k ≡ true → chosenFrom d w n k ≡ k ∷ chosenFrom d w n (k + 1)
+      unfolding chosenFrom
+      is-next f = step k (count d - (k + 1)) left ∙ rw (lt-ltb (first d k) (after d n) i, f)
+
+      is-later : wants d w n k ≡ false → chosenFrom d w n k ≡ chosenFrom d w n (k + 1)
+      unfolding chosenFrom
+      is-later f = step k (count d - (k + 1)) left ∙ rw (lt-ltb (first d k) (after d n) i, f)
+
+  no-more : (k : ℕ) → count d ≤ k → chosenFrom d w n k ≡ []
+  unfolding chosenFrom within
+  no-more k h =
+      let e : count d - k ≡ 0 = omega arith in
+      rw e
+
+  -- ---- the next one
+  abbrev pub Next : ℕ → ℕ → Type 0
+  Next from k = firstOne (chosenFrom d w n from) ≡ firstOne (chosenFrom d w n k)
+
+-- the loops test the number against the length of the table that is lent
+module _ (s rows roles : List ℕ) (t : DocumentType) (w : Wanted) (n : ℕ) where
+  its-count : length rows / 4 ≡ count (draft s rows roles t)
+  unfolding draft
+  its-count = refl
+
+  module _ (from k : ℕ) (l : Next (draft s rows roles t) w n from k) where
+    pub next-ends : length rows / 4 ≤ k → Nothing ≡ firstOne (chosenFrom (draft s rows roles t) w n from)
+    next-ends h = sym (l ∙ rw (no-more (draft s rows roles t) w n k (omega (arith, its-count))))
+
+    module _ (h : k < length rows / 4) (end at : ℕ) (p : end ≡ after (draft s rows roles t) n) (q : at ≡ first (draft s rows roles t) k) where
+      pub next-over : end ≤ at → Nothing ≡ firstOne (chosenFrom (draft s rows roles t) w n from)
+      next-over g = sym (l ∙ rw (is-over (draft s rows roles t) w n k (omega (arith, its-count)) (omega (arith, p, q))))
+
+      module _ (g : at < end) (b : Bool) (e : b ≡ wants (draft s rows roles t) w n k) where
+        pub next-is : b ≡ true → At k ≡ firstOne (chosenFrom (draft s rows roles t) w n from)
+        next-is f = sym (l ∙ rw (is-next (draft s rows roles t) w n k (omega (arith, its-count)) (omega (arith, p, q)) (sym e ∙ f)))
+
+        pub next-goes : b ≡ false → Next (draft s rows roles t) w n from (k + 1)
+        next-goes f = l ∙ rw (is-later (draft s rows roles t) w n k (omega (arith, its-count)) (omega (arith, p, q)) (sym e ∙ f))
+
+  -- ---- how many
+  pub record Counted (found k : ℕ) : Type 0 where
+    pub sum : length (chosen (draft s rows roles t) w n) ≡ found + length (chosenFrom (draft s rows roles t) w n k)
+    pub few : found ≤ k
+
+  pub counted-none : Counted 0 (n + 1)
+  unfolding chosen
+  counted-none = record { sum = omega arith; few = omega arith }
+
+  module _ (found k : ℕ) (l : Counted found k) where
+    pub counted-ends : length rows / 4 ≤ k → found ≡ length (chosen (draft s rows roles t) w n)
+    counted-ends h = omega (arith, l .sum, ap length (no-more (draft s rows roles t) w n k (omega (arith, its-count))))
+
+    module _ (h : k < length rows / 4) (end at : ℕ) (p : end ≡ after (draft s rows roles t) n) (q : at ≡ first (draft s rows roles t) k) where
+      pub counted-fits : length rows / 4 < 2 ^ 64 → Fits w64 (found + 1)
+      counted-fits g = omega (arith, l .few)
+
+      pub counted-over : end ≤ at → found ≡ length (chosen (draft s rows roles t) w n)
+      counted-over g = omega (arith, l .sum, ap length (is-over (draft s rows roles t) w n k (omega (arith, its-count)) (omega (arith, p, q))))
+
+      module _ (g : at < end) (b : Bool) (e : b ≡ wants (draft s rows roles t) w n k) where
+        pub counted-one : b ≡ true → Counted (found + 1) (k + 1)
+        counted-one f = record { sum = omega (arith, l .sum, ap length (is-next (draft s rows roles t) w n k (omega (arith, its-count)) (omega (arith, p, q)) (sym e ∙ f))); few = omega (arith, l .few) }
+
+        pub counted-goes : b ≡ false → Counted found (k + 1)
+        counted-goes f = record { sum = omega (arith, l .sum, ap length (is-later (draft s rows roles t) w n k (omega (arith, its-count)) (omega (arith, p, q)) (sym e ∙ f))); few = omega (arith, l .few) }
+
+  -- ---- past the end of the table there is none
+  empty-past : length rows ≤ n → chosen (draft s rows roles t) w n ≡ []
+  unfolding chosen
+  empty-past h = no-more (draft s rows roles t) w n (n + 1) (omega (arith, its-count))
+
+  pub only-past : length rows ≤ n → Nothing ≡ onlyOne (chosen (draft s rows roles t) w n)
+  only-past h = rw (empty-past h)
+
+  pub none-past : length rows ≤ n → true ≡ isEmpty (chosen (draft s rows roles t) w n)
+  none-past h = rw (empty-past h)
+
+  pub many-past : length rows ≤ n → 0 ≡ length (chosen (draft s rows roles t) w n)
+  many-past h = rw (empty-past h)
+
+-- ---- the first, and the only one
+module _ (d : Draft) (w : Wanted) (n : ℕ) where
+  none-first : (k : ℕ) → firstOne (chosenFrom d w n k) ≡ Nothing → chosenFrom d w n k ≡ []
+  none-first k e = go (chosenFrom d w n k) e
+    where
+      go : (l : List ℕ) → firstOne l ≡ Nothing → l ≡ []
+      go [] e = refl
+      go (x ∷ xs) e = absurd (let z : _≡_ {A = ℕ} 0 1 = cc in omega arith)
+
+  -- what is first is followed by those from the next number on
+  abbrev First : ℕ → List ℕ → Type 0
+  First r l = (r < count d) × (l ≡ r ∷ chosenFrom d w n (r + 1))
+
+  nothing-first : {A : Type 0} (r : ℕ) → Nothing ≡ At r → A
+  nothing-first r e = absurd (let z : _≡_ {A = ℕ} 0 1 = cc in omega arith)
+
+  first-one : (m k r : ℕ) → k + m ≡ count d → firstOne (within d w n k m) ≡ At r → First r (within d w n k m)
+  unfolding within chosenFrom
+  first-one zero k r h e = nothing-first r e
+  first-one (suc m) k r h e = go (inside d n k) (wants d w n k) e (first-one m (k + 1) r (omega arith))
+    where
+      go : (i t : Bool) → firstOne (pick i (pick t (k ∷ within d w n (k + 1) m) (within d w n (k + 1) m)) []) ≡ At r → (firstOne (within d w n (k + 1) m) ≡ At r → First r (within d w n (k + 1) m)) → First r (pick i (pick t (k ∷ within d w n (k + 1) m) (within d w n (k + 1) m)) [])
+      go true true e f =
+          let q : k ≡ r = cc in
+          let a : m ≡ count d - (r + 1) = omega arith in
+          (omega arith, rw (← a, q))
+      go true false e f = f e
+      go false t e f = nothing-first r e
+
+  at-first : (i k : ℕ) → firstOne (chosenFrom d w n i) ≡ At k → First k (chosenFrom d w n i)
+  unfolding chosenFrom
+  at-first i k e = go (ltb i (count d)) refl
+    where
+      go : (t : Bool) → ltb i (count d) ≡ t → First k (within d w n i (count d - i))
+      go true q = first-one (count d - i) i k (omega (arith, ltb-true i (count d) q)) e
+      go false q = nothing-first k (sym (ap firstOne (no-more d w n i (ltb-false i (count d) q))) ∙ e)
+
+  module _ (x : Found) (f : x ≡ firstOne (chosenFrom d w n (n + 1))) where
+    pub only-none : x ≡ Nothing → Nothing ≡ onlyOne (chosen d w n)
+    unfolding chosen
+    only-none e = rw (none-first (n + 1) (sym f ∙ e))
+
+    pub none-below : x ≡ Nothing → true ≡ isEmpty (chosen d w n)
+    unfolding chosen
+    none-below e = rw (none-first (n + 1) (sym f ∙ e))
+
+    module _ (k : ℕ) (e : x ≡ At k) where
+      pub some-below : false ≡ isEmpty (chosen d w n)
+      unfolding chosen
+      some-below = rw (at-first (n + 1) k (sym f ∙ e) .1, ne-eqb (length (k ∷ chosenFrom d w n (k + 1))) 0 (λ h. omega arith))
+
+      module _ (y : Found) (g : y ≡ firstOne (chosenFrom d w n (k + 1))) where
+        pub only-is : y ≡ Nothing → At k ≡ onlyOne (chosen d w n)
+        unfolding chosen
+        only-is h = rw (at-first (n + 1) k (sym f ∙ e) .1, none-first (k + 1) (sym g ∙ h))
+
+        pub only-more : (j : ℕ) → y ≡ At j → Nothing ≡ onlyOne (chosen d w n)
+        unfolding chosen
+        only-more j h = rw (at-first (n + 1) k (sym f ∙ e) .1, at-first (k + 1) j (sym g ∙ h) .1)
+
+pub only-fits : (s rows roles : List ℕ) (t : DocumentType) (w : Wanted) (n : ℕ) (x : Found) → x ≡ firstOne (chosenFrom (draft s rows roles t) w n (n + 1)) → (k : ℕ) → x ≡ At k → length rows < 2 ^ 64 → Fits w64 (k + 1)
+only-fits s rows roles t w n x f k e g = omega (arith, at-first (draft s rows roles t) w n (n + 1) k (sym f ∙ e) .0, its-count s rows roles t w n)

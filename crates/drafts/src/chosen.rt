@@ -1,0 +1,275 @@
+// The elements below an element that a procedure looks for.
+ghost use mathlib.Core.Path.{_≡_};
+ghost use lib.ListN.{length};
+ghost use Rattle.drafts.specs.Drafts.{draft, parent, after, is, isKnown, isEmpty};
+ghost use Rattle.drafts.specs.Chosen.{passes, ancestor, wants, chosenFrom, chosen, firstOne, onlyOne, onlyKid};
+use crate::Test;
+use crate::Wanted;
+use crate::tests::attribute_begins;
+use crate::tests::attribute_is;
+use crate::tests::first_byte;
+use crate::tests::number;
+use crate::tests::text_is_empty;
+use paths::DocumentType;
+use paths::Role;
+use scan::Found;
+
+// Whether element n has this role.
+pub fn is_role(
+    document: &[u8],
+    elements: &[u32],
+    roles: &[u8],
+    kind: DocumentType,
+    n: usize,
+    role: Role,
+) -> bool
+    ensures { λ r. ⌜ r ≡ is (draft (now (document .entry)) (now (elements .entry)) (now (roles .entry)) kind) role n ⌝ }
+{
+    scan::byte(roles, n) == paths::role_number(role)
+}
+
+// Whether element n is known.
+pub fn is_known(
+    document: &[u8],
+    elements: &[u32],
+    roles: &[u8],
+    kind: DocumentType,
+    n: usize,
+) -> bool
+    ensures { λ r. ⌜ r ≡ isKnown (draft (now (document .entry)) (now (elements .entry)) (now (roles .entry)) kind) n ⌝ }
+{
+    1 < scan::byte(roles, n)
+}
+
+// The number of element n's parent.
+pub fn parent(
+    document: &[u8],
+    elements: &[u32],
+    roles: &[u8],
+    kind: DocumentType,
+    n: usize,
+) -> usize
+    ensures { λ r. ⌜ r ≡ parent (draft (now (document .entry)) (now (elements .entry)) (now (roles .entry)) kind) n ⌝ }
+{
+    number(elements, n, 1)
+}
+
+// The byte after element n.
+fn byte_after(
+    document: &[u8],
+    elements: &[u32],
+    roles: &[u8],
+    kind: DocumentType,
+    n: usize,
+) -> usize
+    ensures { λ r. ⌜ r ≡ after (draft (now (document .entry)) (now (elements .entry)) (now (roles .entry)) kind) n ⌝ }
+{
+    number(elements, n, 3)
+}
+
+// The element so many levels above k.
+pub fn ancestor(
+    document: &[u8],
+    elements: &[u32],
+    roles: &[u8],
+    kind: DocumentType,
+    levels: usize,
+    k: usize,
+) -> usize
+    ensures { λ r. ⌜ r ≡ ancestor (draft (now (document .entry)) (now (elements .entry)) (now (roles .entry)) kind) levels k ⌝ }
+{
+    let mut at = k;
+    let mut left = levels;
+    while 0 < left {
+        at = parent(document, elements, roles, kind, at);
+        left -= 1;
+    }
+    at
+}
+
+// Whether element k passes the test.
+fn is_passed(
+    document: &[u8],
+    elements: &[u32],
+    roles: &[u8],
+    kind: DocumentType,
+    test: Test,
+    k: usize,
+) -> bool
+    ensures { λ r. ⌜ r ≡ passes (draft (now (document .entry)) (now (elements .entry)) (now (roles .entry)) kind) test k ⌝ }
+{
+    match test {
+        Test::Any => true,
+        Test::DunsRoot => attribute_is(
+            document,
+            elements,
+            roles,
+            kind,
+            k,
+            b"root",
+            b"1.3.6.1.4.1.519.1",
+        ),
+        Test::LabelerRoot => attribute_is(
+            document,
+            elements,
+            roles,
+            kind,
+            k,
+            b"root",
+            b"2.16.840.1.113883.6.69",
+        ),
+        Test::Telephone => attribute_begins(document, elements, roles, kind, k, b"value", b"tel:"),
+        Test::Mail => attribute_begins(document, elements, roles, kind, k, b"value", b"mailto:"),
+        Test::Agent => attribute_is(document, elements, roles, kind, k, b"code", b"C73330"),
+        Test::Import => attribute_is(document, elements, roles, kind, k, b"code", b"C73599"),
+        Test::Empty => text_is_empty(document, elements, roles, kind, k),
+    }
+}
+
+// Whether element k is looked for below n.
+fn is_wanted(
+    document: &[u8],
+    elements: &[u32],
+    roles: &[u8],
+    kind: DocumentType,
+    wanted: Wanted,
+    n: usize,
+    k: usize,
+) -> bool
+    ensures { λ r. ⌜ r ≡ wants (draft (now (document .entry)) (now (elements .entry)) (now (roles .entry)) kind) wanted n k ⌝ }
+{
+    let role = wanted.role;
+    let test = wanted.test;
+    if is_role(document, elements, roles, kind, k, role) {
+        if ancestor(document, elements, roles, kind, wanted.levels, k) == n {
+            return is_passed(document, elements, roles, kind, test, k);
+        }
+        return false;
+    }
+    false
+}
+
+// The next one below n, of the elements from this one on.
+fn next(
+    document: &[u8],
+    elements: &[u32],
+    roles: &[u8],
+    kind: DocumentType,
+    wanted: Wanted,
+    n: usize,
+    from: usize,
+) -> Found
+    ensures { λ r. ⌜ r ≡ firstOne (chosenFrom (draft (now (document .entry)) (now (elements .entry)) (now (roles .entry)) kind) wanted n from) ⌝ }
+{
+    let end = byte_after(document, elements, roles, kind, n);
+    let mut k = from;
+    while k < elements.len() / 4 {
+        if end <= first_byte(document, elements, roles, kind, k) {
+            return Found::Nothing;
+        }
+        if is_wanted(document, elements, roles, kind, wanted, n, k) {
+            return Found::At(k);
+        }
+        k += 1;
+    }
+    Found::Nothing
+}
+
+// The only one below n, where there is just one.
+pub fn only(
+    document: &[u8],
+    elements: &[u32],
+    roles: &[u8],
+    kind: DocumentType,
+    wanted: Wanted,
+    n: usize,
+) -> Found
+    ensures { λ r. ⌜ r ≡ onlyOne (chosen (draft (now (document .entry)) (now (elements .entry)) (now (roles .entry)) kind) wanted n) ⌝ }
+{
+    if elements.len() <= n {
+        return Found::Nothing;
+    }
+    let Found::At(k) = next(document, elements, roles, kind, wanted, n, n + 1) else {
+        return Found::Nothing;
+    };
+    match next(document, elements, roles, kind, wanted, n, k + 1) {
+        Found::Nothing => Found::At(k),
+        Found::At(_) => Found::Nothing,
+    }
+}
+
+// The only child of this role.
+pub fn only_kid(
+    document: &[u8],
+    elements: &[u32],
+    roles: &[u8],
+    kind: DocumentType,
+    n: usize,
+    role: Role,
+) -> Found
+    ensures { λ r. ⌜ r ≡ onlyKid (draft (now (document .entry)) (now (elements .entry)) (now (roles .entry)) kind) n role ⌝ }
+{
+    only(
+        document,
+        elements,
+        roles,
+        kind,
+        Wanted {
+            role: role,
+            levels: 1,
+            test: Test::Any,
+        },
+        n,
+    )
+}
+
+// Whether there is none below n.
+pub fn none(
+    document: &[u8],
+    elements: &[u32],
+    roles: &[u8],
+    kind: DocumentType,
+    wanted: Wanted,
+    n: usize,
+) -> bool
+    ensures { λ r. ⌜ r ≡ isEmpty (chosen (draft (now (document .entry)) (now (elements .entry)) (now (roles .entry)) kind) wanted n) ⌝ }
+{
+    if elements.len() <= n {
+        return true;
+    }
+    match next(document, elements, roles, kind, wanted, n, n + 1) {
+        Found::Nothing => true,
+        Found::At(_) => false,
+    }
+}
+
+// How many there are below n.
+pub fn how_many(
+    document: &[u8],
+    elements: &[u32],
+    roles: &[u8],
+    kind: DocumentType,
+    wanted: Wanted,
+    n: usize,
+) -> usize
+    ensures { λ r. ⌜ r ≡ length (chosen (draft (now (document .entry)) (now (elements .entry)) (now (roles .entry)) kind) wanted n) ⌝ }
+{
+    if elements.len() <= n {
+        return 0;
+    }
+    let end = byte_after(document, elements, roles, kind, n);
+    let mut found = 0;
+    let mut k = n + 1;
+    while k < elements.len() / 4 {
+        if end <= first_byte(document, elements, roles, kind, k) {
+            return found;
+        }
+        if is_wanted(document, elements, roles, kind, wanted, n, k) {
+            found += 1;
+            k += 1;
+            continue;
+        }
+        k += 1;
+    }
+    found
+}

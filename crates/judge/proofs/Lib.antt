@@ -1,0 +1,5 @@
+pub mod Classes
+pub mod Joined
+pub mod Steps
+pub mod Values
+pub mod Chain

@@ -1,0 +1,184 @@
+// The check: refusals 1 to 11, and the findings of a draft under the tables.
+ghost use mathlib.Core.Path.{_≡_};
+ghost use Prim.Native.Nat.{_/_, _≤_};
+ghost use lib.ListN.{length};
+ghost use Rattle.drafts.specs.Drafts.{draft};
+ghost use Rattle.answers.specs.Answers.{tablesAt};
+ghost use Rattle.marks.specs.Listed.{findingsOf};
+ghost use Rattle.judge.specs.Drafted.{draftAs, typeIn, draftOf};
+ghost use Rattle.judge.specs.Check.{cleared, answerIn, listIn, judged, checkOf, Leaves};
+ghost use Rattle.elements.specs.Elements.{elementsOf};
+use answers::Places;
+use paths::DocumentType;
+use reader::Reader;
+use tables::Accepted;
+
+// How many findings there are, or a refusal's number with what it returns.
+pub enum Answer {
+    Findings(usize),
+    Refused(u32, usize),
+}
+
+// Writes zeros over the front of the scratch area.
+fn clear(scratch: &mut [u8])
+    requires { ⌜ 4096 ≤ length (now scratch) ⌝ }
+    ensures { λ _. ⌜ now (scratch .exit) ≡ cleared (now (scratch .entry)) ⌝ }
+{
+    let mut k = 0;
+    while k < 4096 {
+        scratch[k] = 0;
+        k += 1;
+    }
+}
+
+// Marks each element once, and writes the list where there is room for it.
+fn judge_draft(
+    document: &[u8],
+    elements: &[u32],
+    roles: &[u8],
+    kind: DocumentType,
+    tables: &[u8],
+    places: Places,
+    marks: &mut [u64],
+    list: &mut [u32],
+) -> Answer
+    requires { ⌜ (length (now elements) / 4 ≤ length (now marks)) × (length (now marks) ≤ 16384) ⌝ }
+    ensures { λ r. ⌜ (r ≡ answerIn (findingsOf (draft (now (document .entry)) (now (elements .entry)) (now (roles .entry)) kind) (tablesAt (now (tables .entry)) places)) (now (list .entry))) × (now (list .exit) ≡ listIn (findingsOf (draft (now (document .entry)) (now (elements .entry)) (now (roles .entry)) kind) (tablesAt (now (tables .entry)) places)) (now (list .entry))) ⌝ }
+{
+    let header = header::header_of(document, elements, roles, kind);
+    let total = marks::fill(
+        document,
+        elements,
+        roles,
+        kind,
+        header,
+        tables,
+        places,
+        marks,
+    );
+    if list.len() / findings::WIDTH < total {
+        return Answer::Refused(11, total);
+    }
+    let count = elements.len() / 4;
+    marks::write(document, elements, roles, kind, &marks[0..count], list);
+    Answer::Findings(total)
+}
+
+// The same of a document of this type, whose role numbers are stored first.
+fn judge_typed(
+    document: &[u8],
+    elements: &[u32],
+    kind: DocumentType,
+    tables: &[u8],
+    places: Places,
+    roles: &mut [u8],
+    list: &mut [u32],
+) -> Answer
+    requires { ⌜ (length (now elements) / 4 ≤ length (now roles)) × (length (now elements) / 4 ≤ 16384) ⌝ }
+    ensures { λ r. ⌜ (r ≡ answerIn (findingsOf (draftAs kind (now (document .entry)) (now (elements .entry))) (tablesAt (now (tables .entry)) places)) (now (list .entry))) × (now (list .exit) ≡ listIn (findingsOf (draftAs kind (now (document .entry)) (now (elements .entry))) (tablesAt (now (tables .entry)) places)) (now (list .entry))) ⌝ }
+{
+    let mut marks = [0u64; 16384];
+    roles::fill(document, elements, kind, roles);
+    let count = elements.len() / 4;
+    judge_draft(
+        document,
+        elements,
+        &roles[0..count],
+        kind,
+        tables,
+        places,
+        &mut marks,
+        list,
+    )
+}
+
+// The type of a document, by its header.
+fn type_in(document: &[u8], elements: &[u32], roles: &mut [u8]) -> DocumentType
+    requires { ⌜ length (now elements) / 4 ≤ length (now roles) ⌝ }
+    ensures { λ r. ⌜ r ≡ typeIn (now (document .entry)) (now (elements .entry)) ⌝ }
+{
+    roles::fill(document, elements, DocumentType::Neither, roles);
+    let count = elements.len() / 4;
+    let plain = &roles[0..count];
+    let header = header::header_of(document, elements, plain, DocumentType::Neither);
+    header::type_of(document, elements, plain, DocumentType::Neither, header)
+}
+
+// The findings of a document that was read, with this element table.
+fn judge(
+    document: &[u8],
+    elements: &[u32],
+    tables: &[u8],
+    places: Places,
+    list: &mut [u32],
+) -> Answer
+    requires { ⌜ length (now elements) / 4 ≤ 16384 ⌝ }
+    ensures { λ r. ⌜ (r ≡ answerIn (findingsOf (draftOf (now (document .entry)) (now (elements .entry))) (tablesAt (now (tables .entry)) places)) (now (list .entry))) × (now (list .exit) ≡ listIn (findingsOf (draftOf (now (document .entry)) (now (elements .entry))) (tablesAt (now (tables .entry)) places)) (now (list .entry))) ⌝ }
+{
+    let mut roles = [0u8; 16384];
+    let kind = type_in(document, elements, &mut roles);
+    judge_typed(document, elements, kind, tables, places, &mut roles, list)
+}
+
+// The same of tables that were accepted: reads the document, and clears the scratch area once it is not refused.
+fn check_under(
+    document: &[u8],
+    tables: &[u8],
+    places: Places,
+    scratch: &mut [u8],
+    elements: &mut [u32],
+    list: &mut [u32],
+) -> Answer
+    requires { ⌜ 4096 ≤ length (now scratch) ⌝ }
+    ensures { λ r. ⌜ Leaves (judged (now (document .entry)) (tablesAt (now (tables .entry)) places) (now (scratch .entry)) (now (elements .entry)) (now (list .entry)) (elementsOf (now (document .entry)))) r (now (scratch .exit)) (now (elements .exit)) (now (list .exit)) ⌝ }
+{
+    match elements::read(document, elements) {
+        elements::Answer::Refused(number, place) => Answer::Refused(number, place),
+        elements::Answer::Elements(count) => {
+            clear(scratch);
+            judge(document, &elements[0..4 * count], tables, places, list)
+        }
+    }
+}
+
+// Checks a document under the tables: how many findings there are, stored from the front of the list, or a refusal.
+pub fn check(
+    document: &[u8],
+    tables: &[u8],
+    scratch: &mut [u8],
+    elements: &mut [u32],
+    list: &mut [u32],
+) -> Answer
+    ensures { λ r. ⌜ Leaves (checkOf (now (document .entry)) (now (tables .entry)) (now (scratch .entry)) (now (elements .entry)) (now (list .entry))) r (now (scratch .exit)) (now (elements .exit)) (now (list .exit)) ⌝ }
+{
+    if Reader::DOCUMENT < document.len() {
+        return Answer::Refused(1, document.len());
+    }
+    if Reader::TABLES < tables.len() {
+        return Answer::Refused(2, tables.len());
+    }
+    if scratch.len() < 4096 {
+        return Answer::Refused(3, 4096);
+    }
+    match tables::accept(tables) {
+        Accepted::Refused(place) => Answer::Refused(4, place),
+        Accepted::Tables {
+            codes: c,
+            codes_count: nc,
+            names: r,
+            names_count: nr,
+            history: h,
+            history_count: nh,
+        } => {
+            let places = Places {
+                codes: c,
+                ncodes: nc,
+                names: r,
+                nnames: nr,
+                history: h,
+                nhistory: nh,
+            };
+            check_under(document, tables, places, scratch, elements, list)
+        }
+    }
+}

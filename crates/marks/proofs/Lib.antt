@@ -1,0 +1,6 @@
+pub mod Together
+pub mod Listed
+pub mod Digits
+pub mod Appended
+pub mod Grouped
+pub mod Filled

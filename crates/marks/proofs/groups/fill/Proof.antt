@@ -1,0 +1,68 @@
+-- `marks::groups::fill` meets its contract.
+-- Assumes nothing.
+use borrow.Author.Needs.{needs}
+use Rattle.marks.specs.Listed.{broken}
+use Rattle.answers.specs.Answers.{tablesAt}
+use Rattle.drafts.specs.Drafts.{draft}
+use lib.ListN.{length}
+use Prim.Native.Nat.{_-_, _/_}
+use Rattle.marks.proofs.Filled.{ToFill, tofill-start, tofill-room, tofill-fits, tofill-next, tofill-over-count, tofill-over-marks}
+use Rattle.marks.proofs.groups.fill.Statement.{statement}
+use Rattle.marks.proofs.groups.fill.Tie as tie
+
+abbrev Inv-loop : tie.InvT-loop
+Inv-loop document elements roles kind header tables places marks₀ n₀ total₀ marks n total = ToFill document elements roles kind (broken (draft document elements roles kind) header (tablesAt tables places)) marks₀ marks n total
+
+abbrev μ-loop : tie.MeasureT-loop
+μ-loop document elements roles kind header tables places marks₀ n₀ total₀ marks n total = length elements / 4 - n
+
+loop-holds : tie.Need-loop-holds Inv-loop μ-loop
+loop-holds c = search tofill-start
+
+mark-requires : tie.Need-mark-requires Inv-loop μ-loop
+mark-requires c κs = search needs
+
+mul-marks : tie.Need-mul-marks Inv-loop μ-loop
+mul-marks c = search needs
+
+slice-write-marks : tie.Need-slice-write-marks Inv-loop μ-loop
+slice-write-marks c = search tofill-room
+
+how-many-requires : tie.Need-how-many-requires Inv-loop μ-loop
+how-many-requires c κs = search needs
+
+add-total : tie.Need-add-total Inv-loop μ-loop
+add-total c = search (tofill-fits, needs)
+
+add-n : tie.Need-add-n Inv-loop μ-loop
+add-n c = search needs
+
+loop-less : tie.Need-loop-less Inv-loop μ-loop
+loop-less c = search needs
+
+loop-again : tie.Need-loop-again Inv-loop μ-loop
+loop-again c = search tofill-next
+
+same-length : tie.Need-same-length Inv-loop μ-loop
+same-length c = search needs
+
+returns : tie.Need-returns Inv-loop μ-loop
+returns c = (search tofill-over-count, search tofill-over-marks)
+
+pub fill-spec : {M : Type 1} → statement M
+fill-spec =
+    tie.close
+    (tie.spec
+    Inv-loop
+    μ-loop
+    loop-holds
+    mark-requires
+    mul-marks
+    slice-write-marks
+    how-many-requires
+    add-total
+    add-n
+    loop-less
+    loop-again
+    same-length
+    returns)

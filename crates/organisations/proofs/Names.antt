@@ -1,0 +1,87 @@
+-- 16 to 18: the DUNS number and the name of an organisation. One law for each branch of the code.
+-- Assumes nothing.
+use mathlib.Core.Path.{_≡_, _∙_}
+use mathlib.Core.Bool.{Bool, true, false}
+use Prim.Native.Nat.{ℕ}
+use Rattle.scan.specs.Choice.{not}
+use Rattle.scan.specs.declared.Found.{Found}
+use Rattle.scan.specs.declared.Found.the-variants.{At, Nothing}
+use Rattle.paths.specs.declared.Role.the-variants.{OrganisationName}
+use Rattle.drafts.specs.declared.Demand.the-variants as demands
+use Rattle.drafts.specs.Drafts.{Draft, parent, is}
+use Rattle.drafts.specs.Chosen.{one, onlyKid}
+use Rattle.organisations.specs.Organisations.{isOrganisation, dunsId, hasExtension, dunsHolds, breaks16, isSaid, nameHolds, isName, breaks17, demand18}
+
+-- ---- 16
+module _ (d : Draft) (n : ℕ) (a : Bool) (e : a ≡ isOrganisation d n) where
+  pub wrong-duns : a ≡ true → (r : Bool) → r ≡ dunsHolds d n → not r ≡ breaks16 d n
+  unfolding breaks16
+  wrong-duns f r g = rw (← e, f, g)
+
+  pub duns-not-judged : a ≡ false → false ≡ breaks16 d n
+  unfolding breaks16
+  duns-not-judged f = rw (← e, f)
+
+-- ---- the name
+module _ (d : Draft) (n : ℕ) (x : Found) (e : x ≡ onlyKid d n OrganisationName) where
+  pub name-none : x ≡ Nothing → false ≡ nameHolds d n
+  unfolding nameHolds
+  name-none f = rw (← e, f)
+
+  pub name-one : (k : ℕ) → x ≡ At k → (r : Bool) → r ≡ isSaid d k → r ≡ nameHolds d n
+  unfolding nameHolds
+  name-one k f r g = g ∙ rw (← e, f)
+
+module _ (d : Draft) (n : ℕ) (a : Bool) (e : a ≡ is d OrganisationName n) where
+  pub name-judged : a ≡ true → (p : ℕ) → p ≡ parent d n → (r : Bool) → r ≡ isOrganisation d p → r ≡ isName d n
+  unfolding isName
+  name-judged f p g r h = h ∙ rw (← e, f, g)
+
+  pub no-name : a ≡ false → false ≡ isName d n
+  unfolding isName
+  no-name f = rw (← e, f)
+
+-- ---- 17
+module _ (d : Draft) (n : ℕ) (a : Bool) (e : a ≡ isOrganisation d n) where
+  pub wrong-names : a ≡ true → (r : Bool) → r ≡ one (onlyKid d n OrganisationName) → not r ≡ breaks17 d n
+  unfolding breaks17
+  wrong-names f r g = rw (← e, f, g)
+
+  module _ (f : a ≡ false) (b : Bool) (g : b ≡ isName d n) where
+    module _ (h : b ≡ true) (p : ℕ) (i : p ≡ parent d n) (c : Bool) (j : c ≡ one (onlyKid d p OrganisationName)) where
+      pub wrong-name : c ≡ true → (r : Bool) → r ≡ isSaid d n → not r ≡ breaks17 d n
+      unfolding breaks17
+      wrong-name k r l = rw (← e, f, ← g, h, ← i, ← j, k, l)
+
+      pub not-one-name : c ≡ false → false ≡ breaks17 d n
+      unfolding breaks17
+      not-one-name k = rw (← e, f, ← g, h, ← i, ← j, k)
+
+    pub neither : b ≡ false → false ≡ breaks17 d n
+    unfolding breaks17
+    neither h = rw (← e, f, ← g, h)
+
+-- ---- 18
+module _ (d : Draft) (n : ℕ) (a : Bool) (e : a ≡ isName d n) where
+  module _ (f : a ≡ true) (p : ℕ) (g : p ≡ parent d n) (x : Found) (h : x ≡ dunsId d p) where
+    pub row-without-duns : x ≡ Nothing → demands.Nothing ≡ demand18 d n
+    unfolding demand18 dunsHolds
+    row-without-duns i = rw (← e, f, ← g, ← h, i)
+
+    module _ (k : ℕ) (i : x ≡ At k) (b : Bool) (j : b ≡ hasExtension d k) where
+      module _ (l : b ≡ true) (c : Bool) (m : c ≡ nameHolds d p) where
+        pub row-of-name : c ≡ true → demands.NameRow k n ≡ demand18 d n
+        unfolding demand18 dunsHolds
+        row-of-name o = rw (← e, f, ← g, ← h, i, ← j, l, ← m, o)
+
+        pub row-without-name : c ≡ false → demands.Nothing ≡ demand18 d n
+        unfolding demand18 dunsHolds
+        row-without-name o = rw (← e, f, ← g, ← h, i, ← j, l, ← m, o)
+
+      pub row-without-extension : b ≡ false → demands.Nothing ≡ demand18 d n
+      unfolding demand18 dunsHolds
+      row-without-extension l = rw (← e, f, ← g, ← h, i, ← j, l)
+
+  pub row-of-no-name : a ≡ false → demands.Nothing ≡ demand18 d n
+  unfolding demand18
+  row-of-no-name f = rw (← e, f)
