@@ -8,7 +8,7 @@ use Prim.Native.Nat.{ℕ}
 use Rattle.scan.specs.declared.Found.the-variants.{Nothing}
 use Rattle.findings.specs.declared.Class.the-variants.{DocumentOnly}
 use Rattle.findings.specs.Findings.{classOf, flat}
-use Rattle.findings.specs.Lists.{Good}
+use Rattle.findings.specs.Lists.{Good, stays}
 use Rattle.findings.specs.Merge.{firstBad, merged, firstFault}
 use Rattle.findings.proofs.Good.{good-flat}
 use Rattle.tables.specs.Accepted.{Tables, tablesOf}
@@ -24,6 +24,10 @@ use Rattle.judge.proofs.Classes.{class-suits, document-alike, answer-jo
 use Rattle.marks.proofs.Together.{Mark, these, Right, Agrees, together}
 use Rattle.marks.proofs.Listed.{mark, marksFrom, marks-ordered, marks-right, these-listed, listed-good}
 
+answered-alike : (d : Draft) (t u : Tables) (n p : ℕ) → classOf p ≡ DocumentOnly → broken d (headerOf d) t n p ≡ broken d (headerOf d) u n p
+unfolding broken
+answered-alike d t u n p e = document-alike d t u (demandOf d (headerOf d) p n) (rw e at (class-suits d (headerOf d) n p))
+
 -- ---- the findings of a draft
 module _ (d : Draft) (i : InDocumentOrder d) where
   pub findings-good : (t : Tables) → Good (findingsOf d t)
@@ -35,6 +39,24 @@ module _ (d : Draft) (i : InDocumentOrder d) where
   never-bad t = good-flat (findingsOf d t) (findings-good t)
 
   -- what asks no table is found under both files or under neither, so that refusal 13 never comes, whatever the two files are
+  pub never-faulty : (t u : Tables) → firstFault (findingsOf d t) (findingsOf d u) ≡ Nothing
+  unfolding findingsOf
+  never-faulty t u =
+      rw (these-listed d ft fu fv (λ x. x .first) ft (λ n p. refl), these-listed d ft fu fv (λ x. x .second) fu (λ n p. refl)) at
+      (together classOf (marksFrom d ft fu fv 0 (count d)) (marks-ordered d ft fu fv i) (marks-right d ft fu fv classOf alike) .faultless)
+    where
+      ft : ℕ → ℕ → Bool
+      ft = broken d (headerOf d) t
+
+      fu : ℕ → ℕ → Bool
+      fu = broken d (headerOf d) u
+
+      fv : ℕ → ℕ → Bool
+      fv n p = stays (classOf p) (broken d (headerOf d) t n p) (broken d (headerOf d) u n p)
+
+      alike : (n p : ℕ) → Right classOf (mark d ft fu fv n p)
+      alike n p = record { stands = refl; alike = λ e. answered-alike d t u n p e }
+
   module _ (c a b : List ℕ) (j : Joins c a b) where
     marked : (n p : ℕ) → Right classOf (mark d (broken d (headerOf d) (tablesOf a)) (broken d (headerOf d) (tablesOf b)) (broken d (headerOf d) (tablesOf c)) n p)
     unfolding broken
@@ -61,6 +83,3 @@ module _ (d : Draft) (i : InDocumentOrder d) where
 
     pub findings-joined : merged (findingsOf d (tablesOf a)) (findingsOf d (tablesOf b)) ≡ findingsOf d (tablesOf c)
     findings-joined = agreed .list
-
-    pub findings-faultless : firstFault (findingsOf d (tablesOf a)) (findingsOf d (tablesOf b)) ≡ Nothing
-    findings-faultless = agreed .faultless

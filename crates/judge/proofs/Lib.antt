@@ -3,3 +3,5 @@ pub mod Joined
 pub mod Steps
 pub mod Values
 pub mod Chain
+pub mod Demand2
+pub mod Demand3
