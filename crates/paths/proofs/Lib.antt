@@ -2,5 +2,4 @@ pub mod Numbers
 pub mod Chains
 pub mod Children
 pub mod Walks
-pub mod Listing
 pub mod Parents

@@ -1,14 +1,10 @@
 -- Which attributes an element's role lists (document 01, "Known elements").
 -- Assumes nothing.
 use Prim.Native.Nat.{ℕ}
-use mathlib.Core.Bool.{Bool}
 use mathlib.Core.List.{List, [], _∷_}
-use Rattle.scan.specs.Choice.{pick}
 use Rattle.scan.specs.Bytes.{text}
-use Rattle.facts.specs.Strings.{isOneOf}
 use Rattle.paths.specs.declared.Role.{Role}
 use Rattle.paths.specs.declared.Role.the-variants.{Root, Id, Code, Title, EffectiveTime, SetId, VersionNumber, OrganisationId, Telecom, OperationCode}
-use Rattle.paths.specs.Roles.{sameRole}
 
 -- elements of this role list these attributes
 pub record Lists : Type 0 where
@@ -31,14 +27,3 @@ attributeTable =
     ∷ lists Telecom (text "value" ∷ [])
     ∷ lists Title (text "mediaType" ∷ [])
     ∷ []
-
--- what the first row of a role lists; a role without a row lists none
-unfoldable pub namesOf : Role → List Lists → List (List ℕ)
-namesOf role [] = []
-namesOf role (x ∷ xs) = pick (sameRole (x .role) role) (x .names) (namesOf role xs)
-
-unfoldable pub attributesOf : Role → List (List ℕ)
-attributesOf role = namesOf role attributeTable
-
-unfoldable pub listsAttribute : Role → List ℕ → Bool
-listsAttribute role name = isOneOf (attributesOf role) name

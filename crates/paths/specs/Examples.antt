@@ -8,7 +8,7 @@ use mathlib.Core.List.{List, [], _∷_, _++_}
 use Rattle.scan.specs.Choice.{_or_, _and_, not}
 use Rattle.scan.specs.Bytes.{text}
 use Rattle.scan.specs.Lists.{pairs, runEnd}
-use Rattle.facts.specs.Strings.{equal, isOneOf}
+use Rattle.facts.specs.Strings.{equal}
 use Rattle.markup.specs.Names.{nameEnd}
 use Rattle.elements.specs.Elements.{row as elementRow}
 use Rattle.paths.specs.declared.DocumentType.{DocumentType}
@@ -17,7 +17,6 @@ use Rattle.paths.specs.declared.Role.{Role}
 use Rattle.paths.specs.declared.Role.the-variants.{Unknown, Unlisted, Root, Br, SetId, Author, StructuredBody, Time, Labeler, Entity2, Registrant, Establishment, ContactParty, OperationCode}
 use Rattle.paths.specs.Roles.{roleNumber, sameRole}
 use Rattle.paths.specs.Paths.{Row, fits, table, rowsOf, listed, named, childRole, roleWithin, roleOf}
-use Rattle.paths.specs.Attributes.{namesOf, attributesOf, listsAttribute}
 
 -- ---- every row of the table counts: no other of its parent has its name
 abbrev holds : DocumentType → List Row → Bool
@@ -142,23 +141,6 @@ level-2-performance = refl
 other-case : childRole Registration Root (text "setid") ≡ Unlisted
 unfolding pairs equal rowsOf listed named childRole
 other-case = refl
-
--- ---- attributes
-root-attribute : listsAttribute Root (text "xsi:schemaLocation") ≡ true
-unfolding pairs equal isOneOf namesOf attributesOf listsAttribute
-root-attribute = refl
-
-set-id-extension : listsAttribute SetId (text "extension") ≡ false
-unfolding pairs equal isOneOf namesOf attributesOf listsAttribute
-set-id-extension = refl
-
-operation-code-attribute : listsAttribute OperationCode (text "displayName") ≡ true
-unfolding pairs equal isOneOf namesOf attributesOf listsAttribute
-operation-code-attribute = refl
-
-time-attribute : (name : List ℕ) → listsAttribute Time name ≡ false
-unfolding isOneOf namesOf attributesOf listsAttribute
-time-attribute name = refl
 
 -- ---- a document of five elements: its root, title with br, and an element that is not listed, with another inside
 abbrev document : List ℕ

@@ -1,4 +1,4 @@
-// Which elements are known and as what, and which attributes they list.
+// Which elements are known and as what.
 ghost use mathlib.Core.Path.{_≡_};
 ghost use mathlib.Core.Bool.{true};
 ghost use Prim.Native.Nat.{_+_, _*_, _/_, _^_, _<_};
@@ -6,9 +6,8 @@ ghost use lib.ListN.{length, getD};
 ghost use Rattle.scan.specs.Choice.{pick};
 ghost use Rattle.scan.specs.Bytes.{text};
 ghost use Rattle.facts.specs.Strings.{equal};
-ghost use Rattle.paths.specs.Roles.{roleNumber, isKnown};
+ghost use Rattle.paths.specs.Roles.{roleNumber};
 ghost use Rattle.paths.specs.Paths.{listed, named, childRole, hasRow, nameOf, roleOf};
-ghost use Rattle.paths.specs.Attributes.{listsAttribute};
 
 // The type of a document: 51725-0 is the registration, 51726-8 the labeler code request.
 pub enum DocumentType {
@@ -105,13 +104,6 @@ pub fn role_number(role: Role) -> u32
         Role::ActDefinition => 35,
         Role::OperationCode => 36,
     }
-}
-
-// Whether an element of this role is known.
-pub fn is_known(role: Role) -> bool
-    ensures { λ r. ⌜ r ≡ isKnown role ⌝ }
-{
-    1 < role_number(role)
 }
 
 // The role of a child where one name is listed, or left to ask for.
@@ -352,59 +344,4 @@ pub fn role_of(document: &[u8], elements: &[u32], n: usize, kind: DocumentType) 
         return role_below(document, elements, n, kind, above);
     }
     Role::Unknown
-}
-
-// The attributes of the root.
-fn of_root(name: &[u8]) -> bool
-    ensures { λ r. ⌜ r ≡ listsAttribute Role.Root (now (name .entry)) ⌝ }
-{
-    if facts::same(name, b"xmlns") {
-        return true;
-    }
-    if facts::same(name, b"xmlns:xsi") {
-        return true;
-    }
-    facts::same(name, b"xsi:schemaLocation")
-}
-
-// The attributes of an id.
-fn of_id(name: &[u8]) -> bool
-    ensures { λ r. ⌜ r ≡ listsAttribute Role.Id (now (name .entry)) ⌝ }
-{
-    if facts::same(name, b"root") {
-        return true;
-    }
-    facts::same(name, b"extension")
-}
-
-// The attributes of a code.
-fn of_code(name: &[u8]) -> bool
-    ensures { λ r. ⌜ r ≡ listsAttribute Role.Code (now (name .entry)) ⌝ }
-{
-    if facts::same(name, b"code") {
-        return true;
-    }
-    if facts::same(name, b"codeSystem") {
-        return true;
-    }
-    facts::same(name, b"displayName")
-}
-
-// Whether an element of this role lists an attribute of that name.
-pub fn lists_attribute(role: Role, name: &[u8]) -> bool
-    ensures { λ r. ⌜ r ≡ listsAttribute role (now (name .entry)) ⌝ }
-{
-    match role {
-        Role::Root => of_root(name),
-        Role::Id => of_id(name),
-        Role::OrganisationId => of_id(name),
-        Role::SetId => facts::same(name, b"root"),
-        Role::Code => of_code(name),
-        Role::OperationCode => of_code(name),
-        Role::EffectiveTime => facts::same(name, b"value"),
-        Role::VersionNumber => facts::same(name, b"value"),
-        Role::Telecom => facts::same(name, b"value"),
-        Role::Title => facts::same(name, b"mediaType"),
-        _ => false,
-    }
 }
