@@ -66,7 +66,7 @@ module _ (d : Draft) (h : Header) (n : ℕ) where
 
   all-suit : Suit 0 (Nothing ∷ demands d h n)
   unfolding classOf demand6 demand8 demand12 demand18 demand21 demand22 demand34
-  all-suit = (refl, (document (breaks1 d n), (document (breaks2 d n), (document (breaks3 d n), (document (breaks4 d n), (document (breaks5 d h n), (if-suits Either (is d Id n and idHolds d h) (NoDocument n) refl, (document (breaks7 d h n), (if-suits Both (is d Code n and hasType d h) (CodeRow n) refl, (document (breaks9 d h n), (document (breaks10 d h n), (document (breaks11 d h n), (if-suits Either (is d VersionNumber n and setHolds d h and versionHolds d h) (NoVersion (the (h .set)) n) refl, (document (breaks13 d h n), (document (breaks14 d n), (document (breaks15 d n), (document (breaks16 d n), (document (breaks17 d n), (if-suits Both (isName′ d n and dunsHolds d (parent d n) and nameHolds d (parent d n)) (NameRow (the (dunsId d (parent d n))) n) refl, (document (breaks19 d n), (document (breaks20 d n), (if-suits Either (isKey d n and setHolds d h) (NoKeyElsewhere n (the (h .set))) refl, (if-suits Either (isLabelerId d n and setHolds d h) (NoOtherKey n (the (h .set))) refl, (document (breaks23 d n), (document (breaks24 d n), (document (breaks25 d n), (document (breaks26 d n), (document (breaks27 d n), (document (breaks28 d n), (document (breaks29 d n), (document (breaks30 d n), (document (breaks31 d n), (document (breaks32 d n), (document (breaks33 d n), (if-suits Both (is d OperationCode n) (CodeRow n) refl, (document (breaks35 d n), (document (breaks36 d n), (document (breaks37 d n), (document (breaks38 d n), tt)))))))))))))))))))))))))))))))))))))))
+  all-suit = (refl, (document (breaks1 d n), (document (breaks2 d n), (document (breaks3 d n), (document (breaks4 d n), (document (breaks5 d h n), (if-suits Either (is d Id n and idHolds d h) (NoDocument n) refl, (document (breaks7 d h n), (if-suits Both (is d Code n and hasType d h) (CodeRow n) refl, (document (breaks9 d h n), (document (breaks10 d h n), (document (breaks11 d h n), (if-suits Either (is d VersionNumber n and setHolds d h and versionHolds d h) (NoVersion (the (h .set)) n) refl, (document (breaks13 d h n), (document (breaks14 d n), (document (breaks15 d n), (document (breaks16 d n), (document (breaks17 d n), (if-suits Both (isName′ d n and nameHolds d (parent d n) and dunsHolds d (parent d n)) (NameRow (the (dunsId d (parent d n))) n) refl, (document (breaks19 d n), (document (breaks20 d n), (if-suits Either (isKey d n and setHolds d h) (NoKeyElsewhere n (the (h .set))) refl, (if-suits Either (isLabelerId d n and setHolds d h) (NoOtherKey n (the (h .set))) refl, (document (breaks23 d n), (document (breaks24 d n), (document (breaks25 d n), (document (breaks26 d n), (document (breaks27 d n), (document (breaks28 d n), (document (breaks29 d n), (document (breaks30 d n), (document (breaks31 d n), (document (breaks32 d n), (document (breaks33 d n), (if-suits Both (is d OperationCode n) (CodeRow n) refl, (document (breaks35 d n), (document (breaks36 d n), (document (breaks37 d n), (document (breaks38 d n), tt)))))))))))))))))))))))))))))))))))))))
 
   pub class-suits : (p : ℕ) → suits (classOf p) (demandOf d h p n) ≡ true
   unfolding demandOf

@@ -63,24 +63,24 @@ module _ (d : Draft) (n : ℕ) (a : Bool) (e : a ≡ isOrganisation d n) where
 
 -- ---- 18
 module _ (d : Draft) (n : ℕ) (a : Bool) (e : a ≡ isName d n) where
-  module _ (f : a ≡ true) (p : ℕ) (g : p ≡ parent d n) (x : Found) (h : x ≡ dunsId d p) where
-    pub row-without-duns : x ≡ Nothing → demands.Nothing ≡ demand18 d n
-    unfolding demand18 dunsHolds
-    row-without-duns i = rw (← e, f, ← g, ← h, i)
+  module _ (f : a ≡ true) (p : ℕ) (g : p ≡ parent d n) (c : Bool) (m : c ≡ nameHolds d p) where
+    pub row-without-name : c ≡ false → demands.Nothing ≡ demand18 d n
+    unfolding demand18
+    row-without-name o = rw (← e, f, ← g, ← m, o)
 
-    module _ (k : ℕ) (i : x ≡ At k) (b : Bool) (j : b ≡ hasExtension d k) where
-      module _ (l : b ≡ true) (c : Bool) (m : c ≡ nameHolds d p) where
-        pub row-of-name : c ≡ true → demands.NameRow k n ≡ demand18 d n
-        unfolding demand18 dunsHolds
-        row-of-name o = rw (← e, f, ← g, ← h, i, ← j, l, ← m, o)
-
-        pub row-without-name : c ≡ false → demands.Nothing ≡ demand18 d n
-        unfolding demand18 dunsHolds
-        row-without-name o = rw (← e, f, ← g, ← h, i, ← j, l, ← m, o)
-
-      pub row-without-extension : b ≡ false → demands.Nothing ≡ demand18 d n
+    module _ (o : c ≡ true) (x : Found) (h : x ≡ dunsId d p) where
+      pub row-without-duns : x ≡ Nothing → demands.Nothing ≡ demand18 d n
       unfolding demand18 dunsHolds
-      row-without-extension l = rw (← e, f, ← g, ← h, i, ← j, l)
+      row-without-duns i = rw (← e, f, ← g, ← m, o, ← h, i)
+
+      module _ (k : ℕ) (i : x ≡ At k) (b : Bool) (j : b ≡ hasExtension d k) where
+        pub row-of-name : b ≡ true → demands.NameRow k n ≡ demand18 d n
+        unfolding demand18 dunsHolds
+        row-of-name l = rw (← e, f, ← g, ← m, o, ← h, i, ← j, l)
+
+        pub row-without-extension : b ≡ false → demands.Nothing ≡ demand18 d n
+        unfolding demand18 dunsHolds
+        row-without-extension l = rw (← e, f, ← g, ← m, o, ← h, i, ← j, l)
 
   pub row-of-no-name : a ≡ false → demands.Nothing ≡ demand18 d n
   unfolding demand18

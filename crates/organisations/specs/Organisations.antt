@@ -96,7 +96,7 @@ breaks17 d n =
 -- 18: at name
 unfoldable pub demand18 : Draft → ℕ → Demand
 demand18 d n =
-    demandIf (isName d n and dunsHolds d (parent d n) and nameHolds d (parent d n)) (NameRow (the (dunsId d (parent d n))) n)
+    demandIf (isName d n and nameHolds d (parent d n) and dunsHolds d (parent d n)) (NameRow (the (dunsId d (parent d n))) n)
 
 -- ---- 19: the labeler of a request
 unfoldable pub labelerHolds : Draft → ℕ → Bool

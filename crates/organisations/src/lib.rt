@@ -351,11 +351,11 @@ pub fn demand_18(
 {
     if is_name(document, elements, roles, kind, n) {
         let holder = parent(document, elements, roles, kind, n);
-        let Found::At(k) = duns_id(document, elements, roles, kind, holder) else {
-            return Demand::Nothing;
-        };
-        if has_extension(document, elements, roles, kind, k) {
-            if name_holds(document, elements, roles, kind, holder) {
+        if name_holds(document, elements, roles, kind, holder) {
+            let Found::At(k) = duns_id(document, elements, roles, kind, holder) else {
+                return Demand::Nothing;
+            };
+            if has_extension(document, elements, roles, kind, k) {
                 return Demand::NameRow(k, n);
             }
             return Demand::Nothing;

@@ -11,6 +11,9 @@ is-name-requires c κs = search needs
 parent-requires : tie.Need-parent-requires
 parent-requires c κs = search needs
 
+name-holds-requires : tie.Need-name-holds-requires
+name-holds-requires c κs = search needs
+
 duns-id-requires : tie.Need-duns-id-requires
 duns-id-requires c κs = search needs
 
@@ -26,17 +29,14 @@ returns c = search row-without-duns
 has-extension-requires : tie.Need-has-extension-requires
 has-extension-requires c κs = search needs
 
-name-holds-requires : tie.Need-name-holds-requires
-name-holds-requires c κs = search needs
-
 returns-2 : tie.Need-returns-2
 returns-2 c = search row-of-name
 
 returns-3 : tie.Need-returns-3
-returns-3 c = search row-without-name
+returns-3 c = search row-without-extension
 
 returns-4 : tie.Need-returns-4
-returns-4 c = search row-without-extension
+returns-4 c = search row-without-name
 
 returns-5 : tie.Need-returns-5
 returns-5 c = search row-of-no-name
@@ -47,12 +47,12 @@ demand-18-spec =
     (tie.spec
     is-name-requires
     parent-requires
+    name-holds-requires
     duns-id-requires
     enum-known-k
     enum-told
     returns
     has-extension-requires
-    name-holds-requires
     returns-2
     returns-3
     returns-4
