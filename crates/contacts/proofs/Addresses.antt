@@ -11,8 +11,8 @@ use Rattle.facts.specs.Strings.{equal}
 use Rattle.paths.specs.declared.Role.the-variants.{Establishment, ContactParty, Addr, StreetAddressLine, City, State, PostalCode, Country}
 use Rattle.drafts.specs.declared.Test.the-variants.{Any, Empty}
 use Rattle.drafts.specs.Drafts.{Draft, parent, is, said, isEmpty}
-use Rattle.drafts.specs.Chosen.{chosen, wanted, onlyKid}
-use Rattle.contacts.specs.Contacts.{oneSaid, linesSaid, isAddress, addressHolds, breaks24, isUsa, breaks25}
+use Rattle.drafts.specs.Chosen.{chosen, wanted, isThe, onlyKid}
+use Rattle.contacts.specs.Contacts.{oneSaid, linesSaid, isAddress, addressHolds, breaks24, isUsa, isHeld, breaks25}
 
 -- ---- the lines of an address
 module _ (d : Draft) (n : ℕ) (a : Bool) (e : a ≡ isEmpty (chosen d (wanted StreetAddressLine 1 Any) n)) where
@@ -76,25 +76,34 @@ module _ (d : Draft) (n : ℕ) (x : Found) (e : x ≡ onlyKid d n Country) where
 
 -- ---- 25
 module _ (d : Draft) (n : ℕ) (a : Bool) (e : a ≡ is d Addr n) where
+  pub no-address : a ≡ false → false ≡ isHeld d n
+  unfolding isHeld
+  no-address f = rw (← e, f)
+
+  module _ (f : a ≡ true) (p : ℕ) (q : p ≡ parent d n) (b : Bool) (g : b ≡ isThe (onlyKid d p Addr) n) where
+    pub not-the-one : b ≡ false → false ≡ isHeld d n
+    unfolding isHeld
+    not-the-one h = rw (← e, f, ← q, ← g, h)
+
+    pub held-is : b ≡ true → (r : Bool) → r ≡ isAddress d n → r ≡ isHeld d n
+    unfolding isHeld
+    held-is h r i = i ∙ rw (← e, f, ← q, ← g, h)
+
+module _ (d : Draft) (n : ℕ) (a : Bool) (e : a ≡ isHeld d n) where
   pub other-25 : a ≡ false → false ≡ breaks25 d n
   unfolding breaks25
   other-25 f = rw (← e, f)
 
-  module _ (f : a ≡ true) (p : ℕ) (q : p ≡ parent d n) (b : Bool) (g : b ≡ addressHolds d p) where
-    pub broken-25 : b ≡ false → false ≡ breaks25 d n
+  module _ (f : a ≡ true) (c : Bool) (i : c ≡ isUsa d n) where
+    pub abroad-25 : c ≡ false → false ≡ breaks25 d n
     unfolding breaks25
-    broken-25 h = rw (← e, f, ← q, ← g, h)
+    abroad-25 j = rw (← e, f, ← i, j)
 
-    module _ (h : b ≡ true) (c : Bool) (i : c ≡ isUsa d n) where
-      pub abroad-25 : c ≡ false → false ≡ breaks25 d n
+    module _ (j : c ≡ true) (s : Bool) (k : s ≡ oneSaid d n State) where
+      pub state-25 : s ≡ false → true ≡ breaks25 d n
       unfolding breaks25
-      abroad-25 j = rw (← e, f, ← q, ← g, h, ← i, j)
+      state-25 l = rw (← e, f, ← i, j, ← k, l)
 
-      module _ (j : c ≡ true) (s : Bool) (k : s ≡ oneSaid d n State) where
-        pub state-25 : s ≡ false → true ≡ breaks25 d n
-        unfolding breaks25
-        state-25 l = rw (← e, f, ← q, ← g, h, ← i, j, ← k, l)
-
-        pub code-25 : s ≡ true → (r : Bool) → r ≡ oneSaid d n PostalCode → not r ≡ breaks25 d n
-        unfolding breaks25
-        code-25 l r m = rw (← e, f, ← q, ← g, h, ← i, j, ← k, l, ← m)
+      pub code-25 : s ≡ true → (r : Bool) → r ≡ oneSaid d n PostalCode → not r ≡ breaks25 d n
+      unfolding breaks25
+      code-25 l r m = rw (← e, f, ← i, j, ← k, l, ← m)

@@ -9,7 +9,7 @@ use Rattle.scan.specs.declared.Found.the-variants.{At, Nothing}
 use Rattle.paths.specs.declared.Role.{Role}
 use Rattle.paths.specs.declared.Role.the-variants.{Registrant, Establishment, ContactParty, ContactPerson, PersonName}
 use Rattle.drafts.specs.Drafts.{Draft, parent, is}
-use Rattle.drafts.specs.Chosen.{one, onlyKid}
+use Rattle.drafts.specs.Chosen.{one, isThe, onlyKid}
 use Rattle.organisations.specs.Organisations.{requester, isSaid}
 use Rattle.contacts.specs.Contacts.{hasContact, breaks23, oneSaid, personHolds, breaks30}
 
@@ -30,12 +30,6 @@ module _ (d : Draft) (n : ℕ) (a : Bool) (e : a ≡ requester d n) where
 
 -- ---- one child of a role, and one that says something
 module _ (d : Draft) (n : ℕ) (r : Role) (x : Found) (e : x ≡ onlyKid d n r) where
-  pub kid-none : x ≡ Nothing → false ≡ one (onlyKid d n r)
-  kid-none f = rw (← e, f)
-
-  pub kid-one : (k : ℕ) → x ≡ At k → true ≡ one (onlyKid d n r)
-  kid-one k f = rw (← e, f)
-
   pub said-none : x ≡ Nothing → false ≡ oneSaid d n r
   unfolding oneSaid
   said-none f = rw (← e, f)
@@ -75,7 +69,7 @@ module _ (d : Draft) (n : ℕ) (a : Bool) (e : a ≡ is d ContactParty n) where
     unfolding breaks30
     nobody-30 h = rw (← e, f, ← q, ← g, h)
 
-    module _ (h : b ≡ true) (c : Bool) (i : c ≡ one (onlyKid d p ContactParty)) where
+    module _ (h : b ≡ true) (c : Bool) (i : c ≡ isThe (onlyKid d p ContactParty) n) where
       pub many-30 : c ≡ false → false ≡ breaks30 d n
       unfolding breaks30
       many-30 j = rw (← e, f, ← q, ← g, h, ← i, j)

@@ -13,7 +13,7 @@ use Rattle.paths.specs.declared.Role.{Role}
 use Rattle.paths.specs.declared.Role.the-variants.{Registrant, Establishment, Agent, ContactParty, ContactPerson, PersonName, Addr, StreetAddressLine, City, State, PostalCode, Country, Telecom}
 use Rattle.drafts.specs.declared.Test.the-variants.{Any, Telephone, Mail, Empty}
 use Rattle.drafts.specs.Drafts.{Draft, parent, is, attribute, said, isEmpty}
-use Rattle.drafts.specs.Chosen.{valueBegins, chosen, wanted, kids, one, oneHas, onlyKid}
+use Rattle.drafts.specs.Chosen.{valueBegins, chosen, wanted, kids, one, oneHas, isThe, onlyKid}
 use Rattle.organisations.specs.Organisations.{requester, isSaid}
 
 -- 23 and 30 are for the labeler of a request, registrants and establishments
@@ -47,10 +47,13 @@ breaks24 d n = (is d ContactParty n or is d Establishment n) and not (addressHol
 unfoldable pub isUsa : Draft → ℕ → Bool
 isUsa d a = oneHas (onlyKid d a Country) (λ k. equal (said d k) (text "USA"))
 
+-- n is the one addr of its holder, of which 24 holds
+unfoldable pub isHeld : Draft → ℕ → Bool
+isHeld d n = is d Addr n and isThe (onlyKid d (parent d n) Addr) n and isAddress d n
+
 -- 25: at addr
 unfoldable pub breaks25 : Draft → ℕ → Bool
-breaks25 d n =
-    is d Addr n and addressHolds d (parent d n) and isUsa d n and not (oneSaid d n State and oneSaid d n PostalCode)
+breaks25 d n = isHeld d n and isUsa d n and not (oneSaid d n State and oneSaid d n PostalCode)
 
 -- ---- telecoms
 -- each contactParty and level 4 organisation has them
@@ -75,4 +78,5 @@ personHolds d n = oneHas (onlyKid d n ContactPerson) (λ k. oneSaid d k PersonNa
 
 unfoldable pub breaks30 : Draft → ℕ → Bool
 breaks30 d n =
-    is d ContactParty n and hasContact d (parent d n) and one (onlyKid d (parent d n) ContactParty) and not (personHolds d n)
+    is d ContactParty n and hasContact d (parent d n) and isThe (onlyKid d (parent d n) ContactParty) n
+    and not (personHolds d n)

@@ -2,17 +2,19 @@
 ghost use mathlib.Core.Path.{_≡_};
 ghost use Rattle.drafts.specs.Drafts.{draft};
 ghost use Rattle.drafts.specs.Chosen.{one, onlyKid};
-ghost use Rattle.contacts.specs.Contacts.{hasContact, breaks23, oneSaid, linesSaid, isAddress, addressHolds, breaks24, isUsa, breaks25, hasTelecoms, breaks26, breaks27, breaks28, breaks29, personHolds, breaks30};
+ghost use Rattle.contacts.specs.Contacts.{hasContact, breaks23, oneSaid, linesSaid, isAddress, addressHolds, breaks24, isUsa, isHeld, breaks25, hasTelecoms, breaks26, breaks27, breaks28, breaks29, personHolds, breaks30};
 use drafts::Test;
 use drafts::Wanted;
 use drafts::attribute_begins;
 use drafts::attribute_is_telephone;
 use drafts::how_many;
+use drafts::is_only_kid;
 use drafts::is_role;
 use drafts::none;
 use drafts::only_kid;
 use drafts::parent;
 use drafts::text_is;
+use organisations::has_one;
 use organisations::is_said;
 use organisations::requester;
 use paths::DocumentType;
@@ -38,23 +40,6 @@ fn has_contact(
     is_role(document, elements, roles, kind, n, Role::Establishment)
 }
 
-// Whether element n has one child of this role.
-fn one_kid(
-    document: &[u8],
-    elements: &[u32],
-    roles: &[u8],
-    kind: DocumentType,
-    n: usize,
-    role: Role,
-) -> bool
-    ensures { λ r. ⌜ r ≡ one (onlyKid (draft (now (document .entry)) (now (elements .entry)) (now (roles .entry)) kind) n role) ⌝ }
-{
-    match only_kid(document, elements, roles, kind, n, role) {
-        Found::Nothing => false,
-        Found::At(_) => true,
-    }
-}
-
 // Whether 23 is broken at element n.
 pub fn breaks_23(
     document: &[u8],
@@ -68,7 +53,7 @@ pub fn breaks_23(
     if !has_contact(document, elements, roles, kind, n) {
         return false;
     }
-    !one_kid(document, elements, roles, kind, n, Role::ContactParty)
+    !has_one(document, elements, roles, kind, n, Role::ContactParty)
 }
 
 // Whether element n has one child of this role, and that has a text.
@@ -166,6 +151,20 @@ pub fn is_usa(document: &[u8], elements: &[u32], roles: &[u8], kind: DocumentTyp
     text_is(document, elements, roles, kind, k, b"USA")
 }
 
+// Whether element n is the one addr of its holder, and 24 holds of that.
+fn is_held(document: &[u8], elements: &[u32], roles: &[u8], kind: DocumentType, n: usize) -> bool
+    ensures { λ r. ⌜ r ≡ isHeld (draft (now (document .entry)) (now (elements .entry)) (now (roles .entry)) kind) n ⌝ }
+{
+    if !is_role(document, elements, roles, kind, n, Role::Addr) {
+        return false;
+    }
+    let holder = parent(document, elements, roles, kind, n);
+    if !is_only_kid(document, elements, roles, kind, holder, Role::Addr, n) {
+        return false;
+    }
+    is_address(document, elements, roles, kind, n)
+}
+
 // Whether 25 is broken at element n.
 pub fn breaks_25(
     document: &[u8],
@@ -176,11 +175,7 @@ pub fn breaks_25(
 ) -> bool
     ensures { λ r. ⌜ r ≡ breaks25 (draft (now (document .entry)) (now (elements .entry)) (now (roles .entry)) kind) n ⌝ }
 {
-    if !is_role(document, elements, roles, kind, n, Role::Addr) {
-        return false;
-    }
-    let holder = parent(document, elements, roles, kind, n);
-    if !address_holds(document, elements, roles, kind, holder) {
+    if !is_held(document, elements, roles, kind, n) {
         return false;
     }
     if !is_usa(document, elements, roles, kind, n) {
@@ -323,7 +318,8 @@ pub fn breaks_30(
     if !has_contact(document, elements, roles, kind, holder) {
         return false;
     }
-    if !one_kid(document, elements, roles, kind, holder, Role::ContactParty) {
+    let party = Role::ContactParty;
+    if !is_only_kid(document, elements, roles, kind, holder, party, n) {
         return false;
     }
     !person_holds(document, elements, roles, kind, n)

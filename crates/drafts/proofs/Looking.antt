@@ -6,13 +6,13 @@ use mathlib.Core.Bool.{Bool, true, false}
 use mathlib.Core.List.{List, [], _∷_}
 use Prim.Native.Nat.{ℕ, zero, suc, _+_, _-_, _*_, _/_, _<_, _≤_, _^_}
 use native.Mathlib.Omega.{arith}
-use borrow.Author.Tests.{lt-ltb, le-ltb, eq-eqb, ne-eqb, ltb-true, ltb-false}
+use borrow.Author.Tests.{lt-ltb, le-ltb, eq-eqb, ne-eqb, eqb-true, eqb-false, ltb-true, ltb-false}
 use lib.Dec.{eqb, ltb}
 use lib.ListN.{length, getD}
 use mir.Val.{Fits}
 use mir.Syntax.{w64}
 use Rattle.scan.specs.Bytes.{text}
-use Rattle.scan.specs.Choice.{pick}
+use Rattle.scan.specs.Choice.{pick, not}
 use Rattle.scan.specs.declared.Found.{Found}
 use Rattle.scan.specs.declared.Found.the-variants.{At, Nothing}
 use Rattle.facts.specs.Strings.{equal, beginsWith}
@@ -21,7 +21,7 @@ use Rattle.drafts.specs.declared.Test.{Test}
 use Rattle.drafts.specs.declared.Test.the-variants.{Any, DunsRoot, LabelerRoot, Telephone, Mail, Agent, Import, Empty}
 use Rattle.drafts.specs.declared.Wanted.{Wanted}
 use Rattle.drafts.specs.Drafts.{Draft, draft, count, parent, first, after, is, attribute, said, isEmpty}
-use Rattle.drafts.specs.Chosen.{dunsRoot, labelerRoot, agentCode, importCode, passes, ancestor, wants, inside, within, chosenFrom, chosen, firstOne, onlyOne}
+use Rattle.drafts.specs.Chosen.{dunsRoot, labelerRoot, agentCode, importCode, passes, ancestor, placed, wants, inside, within, chosenFrom, chosen, firstOne, onlyOne, isThe}
 
 -- ---- an ancestor, by the branches of its loop
 module _ (d : Draft) (levels k at : ℕ) where
@@ -73,19 +73,24 @@ module _ (d : Draft) (k : ℕ) (w : Test) where
     passes-empty g e = e ∙ rw g
 
 -- ---- whether an element is looked for
-module _ (d : Draft) (w : Wanted) (n k : ℕ) (b : Bool) (e : b ≡ is d (w .role) k) where
-  pub other-role : b ≡ false → false ≡ wants d w n k
-  unfolding wants
-  other-role f = rw (← e, f)
+module _ (d : Draft) (w : Wanted) (n k : ℕ) where
+  module _ (a : ℕ) (g : a ≡ ancestor d (w .levels) k) where
+    pub elsewhere : (a ≡ n → ⊥) → false ≡ placed d w n k
+    unfolding placed
+    elsewhere h = rw (← g, ne-eqb a n h)
 
-  module _ (f : b ≡ true) (a : ℕ) (g : a ≡ ancestor d (w .levels) k) where
-    pub elsewhere : (a ≡ n → ⊥) → false ≡ wants d w n k
-    unfolding wants
-    elsewhere h = rw (← e, f, ← g, ne-eqb a n h)
+    pub there : a ≡ n → (r : Bool) → r ≡ passes d (w .test) k → r ≡ placed d w n k
+    unfolding placed
+    there h r i = i ∙ rw (← g, eq-eqb a n h)
 
-    pub there : a ≡ n → (r : Bool) → r ≡ passes d (w .test) k → r ≡ wants d w n k
+  module _ (b : Bool) (e : b ≡ is d (w .role) k) where
+    pub other-role : b ≡ false → false ≡ wants d w n k
     unfolding wants
-    there h r i = i ∙ rw (← e, f, ← g, eq-eqb a n h)
+    other-role f = rw (← e, f)
+
+    pub its-role : b ≡ true → (r : Bool) → r ≡ placed d w n k → r ≡ wants d w n k
+    unfolding wants
+    its-role f r i = i ∙ rw (← e, f)
 
 -- ---- the list from one number to the next
 module _ (d : Draft) (w : Wanted) (n : ℕ) where
@@ -185,6 +190,9 @@ module _ (s rows roles : List ℕ) (t : DocumentType) (w : Wanted) (n : ℕ) whe
   many-past h = rw (empty-past h)
 
 -- ---- the first, and the only one
+not-empty : (x : ℕ) (l : List ℕ) → isEmpty (x ∷ l) ≡ false
+not-empty x l = ne-eqb (length (x ∷ l)) 0 (λ h. omega arith)
+
 module _ (d : Draft) (w : Wanted) (n : ℕ) where
   none-first : (k : ℕ) → firstOne (chosenFrom d w n k) ≡ Nothing → chosenFrom d w n k ≡ []
   none-first k e = go (chosenFrom d w n k) e
@@ -233,7 +241,7 @@ module _ (d : Draft) (w : Wanted) (n : ℕ) where
     module _ (k : ℕ) (e : x ≡ At k) where
       pub some-below : false ≡ isEmpty (chosen d w n)
       unfolding chosen
-      some-below = rw (at-first (n + 1) k (sym f ∙ e) .1, ne-eqb (length (k ∷ chosenFrom d w n (k + 1))) 0 (λ h. omega arith))
+      some-below = rw (at-first (n + 1) k (sym f ∙ e) .1, not-empty k (chosenFrom d w n (k + 1)))
 
       module _ (y : Found) (g : y ≡ firstOne (chosenFrom d w n (k + 1))) where
         pub only-is : y ≡ Nothing → At k ≡ onlyOne (chosen d w n)
@@ -243,6 +251,66 @@ module _ (d : Draft) (w : Wanted) (n : ℕ) where
         pub only-more : (j : ℕ) → y ≡ At j → Nothing ≡ onlyOne (chosen d w n)
         unfolding chosen
         only-more j h = rw (at-first (n + 1) k (sym f ∙ e) .1, at-first (k + 1) j (sym g ∙ h) .1)
+
+-- ---- an element that may be the only one
+-- of a list with a first one, it is that one or none
+the-first : (r k : ℕ) (l : List ℕ) → (r ≡ k → ⊥) → false ≡ isThe (onlyOne (r ∷ l)) k
+the-first r k [] h = sym (ne-eqb r k h)
+the-first r k (x ∷ l) h = refl
+
+module _ (d : Draft) (w : Wanted) (n k : ℕ) where
+  module _ (y : Found) (g : y ≡ firstOne (chosenFrom d w n (k + 1))) where
+    pub not-followed : y ≡ Nothing → false ≡ not (isEmpty (chosenFrom d w n (k + 1)))
+    not-followed h = rw (none-first d w n (k + 1) (sym g ∙ h))
+
+    pub followed : (j : ℕ) → y ≡ At j → true ≡ not (isEmpty (chosenFrom d w n (k + 1)))
+    followed j h = rw (at-first d w n (k + 1) j (sym g ∙ h) .1, not-empty j (chosenFrom d w n (j + 1)))
+
+  module _ (a : Bool) (g : a ≡ not (isEmpty (chosenFrom d w n (k + 1)))) where
+    -- where the first one is k, those behind k are the rest
+    pub more-behind : a ≡ true → false ≡ isThe (onlyOne (chosen d w n)) k
+    unfolding chosen
+    more-behind h = go (firstOne (chosenFrom d w n (n + 1))) refl
+      where
+        go : (x : Found) → firstOne (chosenFrom d w n (n + 1)) ≡ x → false ≡ isThe (onlyOne (chosenFrom d w n (n + 1))) k
+        go Nothing e = rw (none-first d w n (n + 1) e)
+        go (At r) e = rw (at-first d w n (n + 1) r e .1) (at (eqb r k) refl)
+          where
+            at : (b : Bool) → eqb r k ≡ b → false ≡ isThe (onlyOne (r ∷ chosenFrom d w n (r + 1))) k
+            at true q = rw (eqb-true r k q) (some (chosenFrom d w n (k + 1)) (sym g ∙ h))
+              where
+                some : (l : List ℕ) → not (isEmpty l) ≡ true → false ≡ isThe (onlyOne (k ∷ l)) k
+                some [] z =
+                    let y : false ≡ true = z in
+                    absurd (let u : _≡_ {A = ℕ} 0 1 = cc in omega arith)
+                some (x ∷ l) z = refl
+            at false q = the-first r k (chosenFrom d w n (r + 1)) (eqb-false r k q)
+
+    module _ (h : a ≡ false) (x : Found) (f : x ≡ firstOne (chosenFrom d w n (n + 1))) where
+      pub none-at-all : x ≡ Nothing → false ≡ isThe (onlyOne (chosen d w n)) k
+      unfolding chosen
+      none-at-all e = rw (none-first d w n (n + 1) (sym f ∙ e))
+
+      pub first-of-all : (r : ℕ) → x ≡ At r → eqb r k ≡ isThe (onlyOne (chosen d w n)) k
+      unfolding chosen
+      first-of-all r e = rw (at-first d w n (n + 1) r (sym f ∙ e) .1) (at (eqb r k) refl)
+        where
+          at : (b : Bool) → eqb r k ≡ b → eqb r k ≡ isThe (onlyOne (r ∷ chosenFrom d w n (r + 1))) k
+          at true q = rw (eqb-true r k q) (none (chosenFrom d w n (k + 1)) (sym g ∙ h))
+            where
+              none : (l : List ℕ) → not (isEmpty l) ≡ false → eqb k k ≡ isThe (onlyOne (k ∷ l)) k
+              none [] z = refl
+              none (x ∷ l) z =
+                  let y : true ≡ false = sym (ap not (not-empty x l)) ∙ z in
+                  absurd (let u : _≡_ {A = ℕ} 0 1 = cc in omega arith)
+          at false q = q ∙ the-first r k (chosenFrom d w n (r + 1)) (eqb-false r k q)
+
+module _ (s rows roles : List ℕ) (t : DocumentType) (w : Wanted) (n k : ℕ) where
+  pub holder-past : length rows ≤ n → false ≡ isThe (onlyOne (chosen (draft s rows roles t) w n)) k
+  holder-past h = rw (empty-past s rows roles t w n h)
+
+  pub element-past : length rows ≤ k → false ≡ not (isEmpty (chosenFrom (draft s rows roles t) w n (k + 1)))
+  element-past h = rw (no-more (draft s rows roles t) w n (k + 1) (omega (arith, its-count s rows roles t w n)))
 
 pub only-fits : (s rows roles : List ℕ) (t : DocumentType) (w : Wanted) (n : ℕ) (x : Found) → x ≡ firstOne (chosenFrom (draft s rows roles t) w n (n + 1)) → (k : ℕ) → x ≡ At k → length rows < 2 ^ 64 → Fits w64 (k + 1)
 only-fits s rows roles t w n x f k e g = omega (arith, at-first (draft s rows roles t) w n (n + 1) k (sym f ∙ e) .0, its-count s rows roles t w n)

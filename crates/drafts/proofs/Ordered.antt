@@ -14,7 +14,7 @@ use Rattle.scan.proofs.Tests.{and-left, and-right, and-false, and-true}
 use Rattle.order.specs.Ordered.{Ordered}
 use Rattle.drafts.specs.declared.Wanted.{Wanted}
 use Rattle.drafts.specs.Drafts.{Draft, count, parent, first, after, is}
-use Rattle.drafts.specs.Chosen.{passes, ancestor, wants, within, chosenFrom, chosen}
+use Rattle.drafts.specs.Chosen.{passes, ancestor, placed, wants, within, chosenFrom, chosen}
 
 -- ---- the words
 -- of the numbers k, k + 1, .., m of them, those with the property
@@ -100,7 +100,7 @@ module _ (d : Draft) (size : ℕ) (o : Ordered (d .rows) size) (wide : length (d
 
   module _ (w : Wanted) (n : ℕ) where
     its-ancestor : (k : ℕ) → wants d w n k ≡ true → ancestor d (w .levels) k ≡ n
-    unfolding wants
+    unfolding wants placed
     its-ancestor k e =
         let a = and-right (is d (w .role) k) (eqb (ancestor d (w .levels) k) n and passes d (w .test) k) e in
         eqb-true (ancestor d (w .levels) k) n (and-left (eqb (ancestor d (w .levels) k) n) (passes d (w .test) k) a)

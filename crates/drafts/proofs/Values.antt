@@ -2,11 +2,13 @@
 -- Assumes nothing.
 use mathlib.Core.Path.{_≡_, refl, sym, _∙_, ap}
 use mathlib.Core.Bool.{Bool, true, false}
-use mathlib.Core.List.{List}
+use mathlib.Core.List.{List, [], _∷_}
 use Prim.Native.Nat.{ℕ, _+_, _*_, _<_, _≤_, _^_}
 use native.Mathlib.Omega.{arith}
+use borrow.Author.Tests.{ne-eqb}
 use lib.Dec.{eqb, ltb}
 use lib.ListN.{length, getD, List·getD-eq-default}
+use Rattle.scan.specs.Lists.{pairs}
 use Rattle.facts.specs.Strings.{equal, beginsWith}
 use Rattle.values.specs.Attributes.{attributeOf}
 use Rattle.values.specs.Texts.{textOf}
@@ -53,6 +55,25 @@ module _ (s rows roles : List ℕ) (t : DocumentType) (n : ℕ) where
     unfolding draft said
     text-read v g = g ∙ rw e
 
+  -- ---- a test that was made of it
+  module _ {A : Type 0} (test : List ℕ → A) (f : ℕ) (e : f ≡ first (draft s rows roles t) n) where
+    pub attribute-asked : (name : List ℕ) (r : A) → r ≡ test (attributeOf s f name) → r ≡ test (attribute (draft s rows roles t) n name)
+    unfolding draft attribute
+    attribute-asked name r g = g ∙ rw e
+
+-- nothing but the empty string equals it
+equal-empty : (x : List ℕ) → equal x [] ≡ isEmpty x
+unfolding equal pairs
+equal-empty [] = refl
+equal-empty (b ∷ x) = sym (ne-eqb (length (b ∷ x)) 0 (λ h. omega arith))
+
+module _ (s rows roles : List ℕ) (t : DocumentType) (n f : ℕ) (e : f ≡ first (draft s rows roles t) n) (name : List ℕ) (r : Bool) where
+  pub attribute-equal : (w : List ℕ) → r ≡ equal (attributeOf s f name) w → r ≡ equal (attribute (draft s rows roles t) n name) w
+  attribute-equal w = attribute-asked s rows roles t n (λ x. equal x w) f e name r
+
+  pub attribute-missing : r ≡ equal (attributeOf s f name) [] → r ≡ isEmpty (attribute (draft s rows roles t) n name)
+  attribute-missing g = attribute-asked s rows roles t n isEmpty f e name r (g ∙ equal-empty (attributeOf s f name))
+
 -- ---- a test of what was read
 module _ {A : Type 0} (test : List ℕ → A) (s rows roles : List ℕ) (t : DocumentType) (n f : ℕ) (e : f ≡ first (draft s rows roles t) n) (v : List ℕ) where
   pub attribute-tested : (name : List ℕ) → v ≡ attributeOf s f name → (r : A) → r ≡ test v → r ≡ test (attribute (draft s rows roles t) n name)
@@ -61,10 +82,11 @@ module _ {A : Type 0} (test : List ℕ → A) (s rows roles : List ℕ) (t : Doc
   pub text-tested : v ≡ textOf s f → (r : A) → r ≡ test v → r ≡ test (said (draft s rows roles t) n)
   text-tested g r h = h ∙ ap test (text-read s rows roles t n f e v g)
 
-module _ (s rows roles : List ℕ) (t : DocumentType) (n f : ℕ) (e : f ≡ first (draft s rows roles t) n) (v w : List ℕ) where
-  pub attribute-equals : (name : List ℕ) → v ≡ attributeOf s f name → (r : Bool) → r ≡ equal v w → r ≡ equal (attribute (draft s rows roles t) n name) w
-  attribute-equals = attribute-tested (λ x. equal x w) s rows roles t n f e v
+module _ (s rows roles : List ℕ) (t : DocumentType) (n f : ℕ) (e : f ≡ first (draft s rows roles t) n) (v : List ℕ) where
+  pub text-missing : v ≡ textOf s f → (r : Bool) → r ≡ equal v [] → r ≡ isEmpty (said (draft s rows roles t) n)
+  text-missing g r h = text-tested isEmpty s rows roles t n f e v g r (h ∙ equal-empty v)
 
+module _ (s rows roles : List ℕ) (t : DocumentType) (n f : ℕ) (e : f ≡ first (draft s rows roles t) n) (v w : List ℕ) where
   pub attribute-begins : (name : List ℕ) → v ≡ attributeOf s f name → (r : Bool) → r ≡ beginsWith w v → r ≡ beginsWith w (attribute (draft s rows roles t) n name)
   attribute-begins = attribute-tested (beginsWith w) s rows roles t n f e v
 

@@ -51,8 +51,11 @@ unfoldable pub ancestor : Draft → ℕ → ℕ → ℕ
 ancestor d zero k = k
 ancestor d (suc levels) k = ancestor d levels (parent d k)
 
+unfoldable pub placed : Draft → Wanted → ℕ → ℕ → Bool
+placed d w n k = eqb (ancestor d (w .levels) k) n and passes d (w .test) k
+
 unfoldable pub wants : Draft → Wanted → ℕ → ℕ → Bool
-wants d w n k = is d (w .role) k and eqb (ancestor d (w .levels) k) n and passes d (w .test) k
+wants d w n k = is d (w .role) k and placed d w n k
 
 -- what stands inside n follows it in document order, up to the first element that starts at or behind its end: in a table in document order
 -- with no row behind its elements none is left out (proofs/Ordered.antt)
@@ -102,6 +105,11 @@ oneHas (At k) p = p k
 abbrev pub the : Found → ℕ
 the Nothing = 0
 the (At k) = k
+
+-- it is this element
+abbrev pub isThe : Found → ℕ → Bool
+isThe Nothing n = false
+isThe (At k) n = eqb k n
 
 -- the one child of the role
 abbrev pub onlyKid : Draft → ℕ → Role → Found

@@ -10,7 +10,7 @@ use Rattle.paths.specs.declared.Role.the-variants.{Unknown, Unlisted, Root, Id,
 use Rattle.paths.specs.Roles.{roleNumber}
 use Rattle.drafts.specs.declared.Test.the-variants.{Any}
 use Rattle.drafts.specs.Drafts.{Draft, draft, is}
-use Rattle.drafts.specs.Chosen.{passes, ancestor, wants, within, chosenFrom, chosen, wanted, kids, firstOne, onlyOne, onlyKid}
+use Rattle.drafts.specs.Chosen.{passes, ancestor, wants, placed, within, chosenFrom, chosen, wanted, kids, firstOne, onlyOne, onlyKid}
 
 -- two ids of the root, and one in an element that is not listed; and a labeler
 abbrev rows : List ℕ
@@ -25,28 +25,28 @@ its =
     ∷ roleNumber Labeler ∷ []) Request
 
 its-ids : kids its 0 Id ≡ 1 ∷ 4 ∷ []
-unfolding draft is passes ancestor wants within chosenFrom chosen
+unfolding draft is passes ancestor wants placed within chosenFrom chosen
 its-ids = refl
 
 -- of two ids none is the only one
 no-one-id : onlyKid its 0 Id ≡ Nothing
-unfolding draft is passes ancestor wants within chosenFrom chosen
+unfolding draft is passes ancestor wants placed within chosenFrom chosen
 no-one-id = refl
 
 second-id : firstOne (chosenFrom its (wanted Id 1 Any) 0 2) ≡ At 4
-unfolding draft is passes ancestor wants within chosenFrom chosen
+unfolding draft is passes ancestor wants placed within chosenFrom chosen
 second-id = refl
 
 the-labeler : onlyOne (chosen its (wanted Labeler 3 Any) 0) ≡ At 7
-unfolding draft is passes ancestor wants within chosenFrom chosen
+unfolding draft is passes ancestor wants placed within chosenFrom chosen
 the-labeler = refl
 
 -- it stands two levels below author, and is no child of it
 no-labeler-child : kids its 5 Labeler ≡ []
-unfolding draft is passes ancestor wants within chosenFrom chosen
+unfolding draft is passes ancestor wants placed within chosenFrom chosen
 no-labeler-child = refl
 
 -- the root is no child of its own
 no-root-child : kids its 0 Root ≡ []
-unfolding draft is passes ancestor wants within chosenFrom chosen
+unfolding draft is passes ancestor wants placed within chosenFrom chosen
 no-root-child = refl

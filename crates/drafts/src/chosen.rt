@@ -1,8 +1,10 @@
 // The elements below an element that a procedure looks for.
 ghost use mathlib.Core.Path.{_≡_};
+ghost use Prim.Native.Nat.{_+_};
 ghost use lib.ListN.{length};
+ghost use Rattle.scan.specs.Choice.{not};
 ghost use Rattle.drafts.specs.Drafts.{draft, parent, after, is, isKnown, isEmpty};
-ghost use Rattle.drafts.specs.Chosen.{passes, ancestor, wants, chosenFrom, chosen, firstOne, onlyOne, onlyKid};
+ghost use Rattle.drafts.specs.Chosen.{passes, ancestor, placed, wants, chosenFrom, chosen, firstOne, onlyOne, isThe, onlyKid};
 use crate::Test;
 use crate::Wanted;
 use crate::tests::attribute_begins;
@@ -126,6 +128,25 @@ fn is_passed(
     }
 }
 
+// Whether element k stands so many levels below n, and passes the test.
+fn is_placed(
+    document: &[u8],
+    elements: &[u32],
+    roles: &[u8],
+    kind: DocumentType,
+    wanted: Wanted,
+    n: usize,
+    k: usize,
+) -> bool
+    ensures { λ r. ⌜ r ≡ placed (draft (now (document .entry)) (now (elements .entry)) (now (roles .entry)) kind) wanted n k ⌝ }
+{
+    let test = wanted.test;
+    if ancestor(document, elements, roles, kind, wanted.levels, k) == n {
+        return is_passed(document, elements, roles, kind, test, k);
+    }
+    false
+}
+
 // Whether element k is looked for below n.
 fn is_wanted(
     document: &[u8],
@@ -139,12 +160,8 @@ fn is_wanted(
     ensures { λ r. ⌜ r ≡ wants (draft (now (document .entry)) (now (elements .entry)) (now (roles .entry)) kind) wanted n k ⌝ }
 {
     let role = wanted.role;
-    let test = wanted.test;
     if is_role(document, elements, roles, kind, k, role) {
-        if ancestor(document, elements, roles, kind, wanted.levels, k) == n {
-            return is_passed(document, elements, roles, kind, test, k);
-        }
-        return false;
+        return is_placed(document, elements, roles, kind, wanted, n, k);
     }
     false
 }
@@ -220,6 +237,78 @@ pub fn only_kid(
             test: Test::Any,
         },
         n,
+    )
+}
+
+// Whether one below n stands behind element k.
+fn is_followed(
+    document: &[u8],
+    elements: &[u32],
+    roles: &[u8],
+    kind: DocumentType,
+    wanted: Wanted,
+    n: usize,
+    k: usize,
+) -> bool
+    ensures { λ r. ⌜ r ≡ not (isEmpty (chosenFrom (draft (now (document .entry)) (now (elements .entry)) (now (roles .entry)) kind) wanted n (k + 1))) ⌝ }
+{
+    if elements.len() <= k {
+        return false;
+    }
+    match next(document, elements, roles, kind, wanted, n, k + 1) {
+        Found::Nothing => false,
+        Found::At(_) => true,
+    }
+}
+
+// Whether element k is the only one below n. One behind k is looked for first: of many, each but the last sees the next.
+pub fn is_only(
+    document: &[u8],
+    elements: &[u32],
+    roles: &[u8],
+    kind: DocumentType,
+    wanted: Wanted,
+    n: usize,
+    k: usize,
+) -> bool
+    ensures { λ r. ⌜ r ≡ isThe (onlyOne (chosen (draft (now (document .entry)) (now (elements .entry)) (now (roles .entry)) kind) wanted n)) k ⌝ }
+{
+    if elements.len() <= n {
+        return false;
+    }
+    if is_followed(document, elements, roles, kind, wanted, n, k) {
+        return false;
+    }
+    match next(document, elements, roles, kind, wanted, n, n + 1) {
+        Found::Nothing => false,
+        Found::At(first) => first == k,
+    }
+}
+
+// Whether element k is the only child of n of this role.
+pub fn is_only_kid(
+    document: &[u8],
+    elements: &[u32],
+    roles: &[u8],
+    kind: DocumentType,
+    n: usize,
+    role: Role,
+    k: usize,
+) -> bool
+    ensures { λ r. ⌜ r ≡ isThe (onlyKid (draft (now (document .entry)) (now (elements .entry)) (now (roles .entry)) kind) n role) k ⌝ }
+{
+    is_only(
+        document,
+        elements,
+        roles,
+        kind,
+        Wanted {
+            role: role,
+            levels: 1,
+            test: Test::Any,
+        },
+        n,
+        k,
     )
 }
 

@@ -6,6 +6,8 @@ mod tests;
 pub use chosen::ancestor;
 pub use chosen::how_many;
 pub use chosen::is_known;
+pub use chosen::is_only;
+pub use chosen::is_only_kid;
 pub use chosen::is_role;
 pub use chosen::none;
 pub use chosen::only;

@@ -1,4 +1,5 @@
-// What an attribute or the text of an element says, put to a test.
+// What an attribute or the text of an element says, put to a test. The tests that many elements come to look at the document itself where a
+// value says the bytes that stand there, and take a room for it only where it has to be decoded.
 ghost use mathlib.Core.Path.{_≡_};
 ghost use Prim.Native.Nat.{_+_, _*_, _^_, _<_};
 ghost use lib.ListN.{getD};
@@ -8,6 +9,7 @@ ghost use Rattle.facts.specs.Days.{isDay};
 ghost use Rattle.facts.specs.Telephones.{isTelephone};
 ghost use Rattle.drafts.specs.Drafts.{draft, first, attribute, said, isEmpty};
 use paths::DocumentType;
+use values::Place;
 
 // The number at place k of element n's row, or 0 past the end of the table.
 pub fn number(elements: &[u32], n: usize, k: usize) -> usize
@@ -48,9 +50,8 @@ pub fn attribute_is(
 ) -> bool
     ensures { λ r. ⌜ r ≡ equal (attribute (draft (now (document .entry)) (now (elements .entry)) (now (roles .entry)) kind) n (now (name .entry))) (now (wanted .entry)) ⌝ }
 {
-    let mut room = [0u8; 4096];
     let first = first_byte(document, elements, roles, kind, n);
-    facts::same(values::attribute(document, first, name, &mut room), wanted)
+    values::attribute_is(document, first, name, wanted)
 }
 
 pub fn attribute_begins(
@@ -64,9 +65,12 @@ pub fn attribute_begins(
 ) -> bool
     ensures { λ r. ⌜ r ≡ beginsWith (now (start .entry)) (attribute (draft (now (document .entry)) (now (elements .entry)) (now (roles .entry)) kind) n (now (name .entry))) ⌝ }
 {
-    let mut room = [0u8; 4096];
     let first = first_byte(document, elements, roles, kind, n);
-    facts::begins_with(values::attribute(document, first, name, &mut room), start)
+    let Place::At(a, e) = values::plain_attribute(document, first, name) else {
+        let mut room = [0u8; 4096];
+        return facts::begins_with(values::attribute(document, first, name, &mut room), start);
+    };
+    facts::begins_with(&document[a..e], start)
 }
 
 pub fn attribute_is_empty(
@@ -79,9 +83,8 @@ pub fn attribute_is_empty(
 ) -> bool
     ensures { λ r. ⌜ r ≡ isEmpty (attribute (draft (now (document .entry)) (now (elements .entry)) (now (roles .entry)) kind) n (now (name .entry))) ⌝ }
 {
-    let mut room = [0u8; 4096];
     let first = first_byte(document, elements, roles, kind, n);
-    values::attribute(document, first, name, &mut room).len() == 0
+    values::attribute_is(document, first, name, b"")
 }
 
 pub fn attribute_without_space(
@@ -94,9 +97,12 @@ pub fn attribute_without_space(
 ) -> bool
     ensures { λ r. ⌜ r ≡ withoutSpace (attribute (draft (now (document .entry)) (now (elements .entry)) (now (roles .entry)) kind) n (now (name .entry))) ⌝ }
 {
-    let mut room = [0u8; 4096];
     let first = first_byte(document, elements, roles, kind, n);
-    facts::without_space(values::attribute(document, first, name, &mut room))
+    let Place::At(a, e) = values::plain_attribute(document, first, name) else {
+        let mut room = [0u8; 4096];
+        return facts::without_space(values::attribute(document, first, name, &mut room));
+    };
+    facts::without_space(&document[a..e])
 }
 
 pub fn attribute_is_guid(
@@ -198,7 +204,10 @@ pub fn text_is_empty(
 ) -> bool
     ensures { λ r. ⌜ r ≡ isEmpty (said (draft (now (document .entry)) (now (elements .entry)) (now (roles .entry)) kind) n) ⌝ }
 {
-    let mut room = [0u8; 4096];
     let first = first_byte(document, elements, roles, kind, n);
-    values::text(document, first, &mut room).len() == 0
+    let Place::At(a, e) = values::plain_text(document, first) else {
+        let mut room = [0u8; 4096];
+        return values::text(document, first, &mut room).len() == 0;
+    };
+    facts::same(&document[a..e], b"")
 }

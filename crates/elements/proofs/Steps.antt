@@ -184,6 +184,10 @@ module _ (s : List ℕ) (i r : ℕ) (e : r ≡ nameEnd s i) where
   pub name-inside : i ≤ length s → r ≤ length s
   name-inside h = omega (arith, name-most s i h)
 
+-- behind the first byte of a tag the document goes on, or ends
+pub name-there : (s : List ℕ) (f : ℕ) → f < length s → f + 1 ≤ length s
+name-there s f h = omega arith
+
 pub names-same : (s : List ℕ) (i j a b : ℕ) (t : Bool) → a ≡ nameEnd s i → b ≡ nameEnd s j → t ≡ equal (take (a - i) (drop i s)) (take (b - j) (drop j s)) → t ≡ equal (nameAt s i) (nameAt s j)
 names-same s i j a b t ea eb e = rw (← ea, ← eb) e
 

@@ -1,3 +1,2 @@
 pub mod Holds
-pub mod Known
 pub mod Children

@@ -4,7 +4,6 @@ ghost use Rattle.drafts.specs.Drafts.{draft};
 ghost use Rattle.drafts.specs.Chosen.{one, the};
 ghost use Rattle.header.specs.Header.{headerOf, guidRoot, idHolds, setHolds, codeIs, typedCode, hasType, typeOf, dayValue, versionValue, versionHolds};
 
-mod marks;
 mod root;
 
 use drafts::attribute_is;
@@ -12,10 +11,6 @@ use drafts::attribute_is_day;
 use drafts::attribute_is_guid;
 use drafts::attribute_version;
 use drafts::only_kid;
-pub use marks::breaks_1;
-pub use marks::breaks_2;
-pub use marks::breaks_3;
-pub use marks::breaks_4;
 use paths::DocumentType;
 use paths::Role;
 pub use root::breaks_5;

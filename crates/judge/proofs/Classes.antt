@@ -27,8 +27,9 @@ use Rattle.drafts.specs.Drafts.{Draft, parent, is, attribute, said}
 use Rattle.drafts.specs.Chosen.{the}
 use Rattle.drafts.specs.Demands.{brokenIf, demandIf}
 use Rattle.header.specs.declared.Header.{Header}
-use Rattle.header.specs.Header.{requestCode, idHolds, setHolds, hasType, versionHolds, breaks1, breaks2, breaks3, breaks4, breaks5, demand6, breaks7, demand8, breaks9, breaks10, breaks11, demand12, breaks13}
-use Rattle.organisations.specs.Organisations.{isName as isName′, dunsId, dunsHolds, nameHolds, isLabelerId, isKey, breaks14, breaks15, breaks16, breaks17, demand18, breaks19, breaks20, demand21, demand22}
+use Rattle.known.specs.Known.{breaks1, breaks2, breaks3, breaks4}
+use Rattle.header.specs.Header.{requestCode, idHolds, setHolds, hasType, versionHolds, breaks5, demand6, breaks7, demand8, breaks9, breaks10, breaks11, demand12, breaks13}
+use Rattle.organisations.specs.Organisations.{isName as isName′, dunsId, dunsHolds, isSaid, rowOf, isLabelerId, isKey, breaks14, breaks15, breaks16, breaks17, demand18, breaks19, breaks20, demand21, demand22}
 use Rattle.contacts.specs.Contacts.{breaks23, breaks24, breaks25, breaks26, breaks27, breaks28, breaks29, breaks30}
 use Rattle.registrations.specs.Registrations.{breaks31, breaks32, breaks33, demand34, breaks35, breaks36, breaks37, breaks38}
 use Rattle.procedures.specs.Procedures.{demands, demandOf}
@@ -65,8 +66,8 @@ module _ (d : Draft) (h : Header) (n : ℕ) where
   document false = refl
 
   all-suit : Suit 0 (Nothing ∷ demands d h n)
-  unfolding classOf demand6 demand8 demand12 demand18 demand21 demand22 demand34
-  all-suit = (refl, (document (breaks1 d n), (document (breaks2 d n), (document (breaks3 d n), (document (breaks4 d n), (document (breaks5 d h n), (if-suits Either (is d Id n and idHolds d h) (NoDocument n) refl, (document (breaks7 d h n), (if-suits Both (is d Code n and hasType d h) (CodeRow n) refl, (document (breaks9 d h n), (document (breaks10 d h n), (document (breaks11 d h n), (if-suits Either (is d VersionNumber n and setHolds d h and versionHolds d h) (NoVersion (the (h .set)) n) refl, (document (breaks13 d h n), (document (breaks14 d n), (document (breaks15 d n), (document (breaks16 d n), (document (breaks17 d n), (if-suits Both (isName′ d n and nameHolds d (parent d n) and dunsHolds d (parent d n)) (NameRow (the (dunsId d (parent d n))) n) refl, (document (breaks19 d n), (document (breaks20 d n), (if-suits Either (isKey d n and setHolds d h) (NoKeyElsewhere n (the (h .set))) refl, (if-suits Either (isLabelerId d n and setHolds d h) (NoOtherKey n (the (h .set))) refl, (document (breaks23 d n), (document (breaks24 d n), (document (breaks25 d n), (document (breaks26 d n), (document (breaks27 d n), (document (breaks28 d n), (document (breaks29 d n), (document (breaks30 d n), (document (breaks31 d n), (document (breaks32 d n), (document (breaks33 d n), (if-suits Both (is d OperationCode n) (CodeRow n) refl, (document (breaks35 d n), (document (breaks36 d n), (document (breaks37 d n), (document (breaks38 d n), tt)))))))))))))))))))))))))))))))))))))))
+  unfolding classOf demand6 demand8 demand12 rowOf demand18 demand21 demand22 demand34
+  all-suit = (refl, (document (breaks1 d n), (document (breaks2 d n), (document (breaks3 d n), (document (breaks4 d n), (document (breaks5 d h n), (if-suits Either (is d Id n and idHolds d h) (NoDocument n) refl, (document (breaks7 d h n), (if-suits Both (is d Code n and hasType d h) (CodeRow n) refl, (document (breaks9 d h n), (document (breaks10 d h n), (document (breaks11 d h n), (if-suits Either (is d VersionNumber n and setHolds d h and versionHolds d h) (NoVersion (the (h .set)) n) refl, (document (breaks13 d h n), (document (breaks14 d n), (document (breaks15 d n), (document (breaks16 d n), (document (breaks17 d n), (if-suits Both (isName′ d n and isSaid d n) (rowOf d (parent d n) n) (if-suits Both (dunsHolds d (parent d n)) (NameRow (the (dunsId d (parent d n))) n) refl), (document (breaks19 d n), (document (breaks20 d n), (if-suits Either (isKey d n and setHolds d h) (NoKeyElsewhere n (the (h .set))) refl, (if-suits Either (isLabelerId d n and setHolds d h) (NoOtherKey n (the (h .set))) refl, (document (breaks23 d n), (document (breaks24 d n), (document (breaks25 d n), (document (breaks26 d n), (document (breaks27 d n), (document (breaks28 d n), (document (breaks29 d n), (document (breaks30 d n), (document (breaks31 d n), (document (breaks32 d n), (document (breaks33 d n), (if-suits Both (is d OperationCode n) (CodeRow n) refl, (document (breaks35 d n), (document (breaks36 d n), (document (breaks37 d n), (document (breaks38 d n), tt)))))))))))))))))))))))))))))))))))))))
 
   pub class-suits : (p : ℕ) → suits (classOf p) (demandOf d h p n) ≡ true
   unfolding demandOf

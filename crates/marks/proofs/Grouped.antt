@@ -8,7 +8,8 @@ use Rattle.drafts.specs.Drafts.{Draft}
 use Rattle.drafts.specs.Demands.{brokenIf}
 use Rattle.tables.specs.Accepted.{Tables}
 use Rattle.header.specs.declared.Header.{Header}
-use Rattle.header.specs.Header.{breaks1, breaks2, breaks3, breaks4, breaks5, demand6, breaks7, demand8, breaks9, breaks10, breaks11, demand12, breaks13}
+use Rattle.known.specs.Known.{breaks1, breaks2, breaks3, breaks4}
+use Rattle.header.specs.Header.{breaks5, demand6, breaks7, demand8, breaks9, breaks10, breaks11, demand12, breaks13}
 use Rattle.organisations.specs.Organisations.{breaks14, breaks15, breaks16, breaks17, demand18, breaks19, breaks20, demand21, demand22}
 use Rattle.contacts.specs.Contacts.{breaks23, breaks24, breaks25, breaks26, breaks27, breaks28, breaks29, breaks30}
 use Rattle.registrations.specs.Registrations.{breaks31, breaks32, breaks33, demand34, breaks35, breaks36, breaks37, breaks38}

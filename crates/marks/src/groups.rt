@@ -4,6 +4,7 @@ ghost use Prim.Native.Nat.{_/_, _≤_};
 ghost use lib.ListN.{length};
 ghost use lib.Seq.{sets};
 ghost use Rattle.drafts.specs.Drafts.{draft};
+ghost use Rattle.registrations.specs.Registrations.{hasEstablishment};
 ghost use Rattle.answers.specs.Answers.{tablesAt};
 ghost use Rattle.marks.specs.Listed.{broken, listed};
 ghost use Rattle.marks.specs.Marks.{markOnto, markOf, marksOf};
@@ -23,12 +24,15 @@ fn mark_registrations(
     header: Header,
     tables: &[u8],
     places: Places,
+    entity: usize,
+    held: bool,
     n: usize,
     m: u64,
 ) -> u64
+    requires { ⌜ held ≡ hasEstablishment (draft (now document) (now elements) (now roles) kind) entity ⌝ }
     ensures { λ r. ⌜ r ≡ markOnto (broken (draft (now (document .entry)) (now (elements .entry)) (now (roles .entry)) kind) header (tablesAt (now (tables .entry)) places)) n 31 8 m ⌝ }
 {
-    let broken38 = registrations::breaks_38(document, elements, roles, kind, n);
+    let broken38 = registrations::breaks_38(document, elements, roles, kind, entity, held, n);
     let mark38 = push(m, broken38);
     let broken37 = registrations::breaks_37(document, elements, roles, kind, n);
     let mark37 = push(mark38, broken37);
@@ -167,17 +171,17 @@ fn mark_known(
 ) -> u64
     ensures { λ r. ⌜ r ≡ markOnto (broken (draft (now (document .entry)) (now (elements .entry)) (now (roles .entry)) kind) header (tablesAt (now (tables .entry)) places)) n 1 4 m ⌝ }
 {
-    let broken4 = header::breaks_4(document, elements, roles, kind, n);
+    let broken4 = known::breaks_4(document, elements, roles, kind, n);
     let mark4 = push(m, broken4);
-    let broken3 = header::breaks_3(document, elements, roles, kind, n);
+    let broken3 = known::breaks_3(document, elements, roles, kind, n);
     let mark3 = push(mark4, broken3);
-    let broken2 = header::breaks_2(document, elements, roles, kind, n);
+    let broken2 = known::breaks_2(document, elements, roles, kind, n);
     let mark2 = push(mark3, broken2);
-    let broken1 = header::breaks_1(document, elements, roles, kind, n);
+    let broken1 = known::breaks_1(document, elements, roles, kind, n);
     push(mark2, broken1)
 }
 
-// The mark of element n.
+// The mark of element n, where it was found out before whether `entity` is the entity of an establishment.
 pub fn mark(
     document: &[u8],
     elements: &[u32],
@@ -186,8 +190,11 @@ pub fn mark(
     header: Header,
     tables: &[u8],
     places: Places,
+    entity: usize,
+    held: bool,
     n: usize,
 ) -> u64
+    requires { ⌜ held ≡ hasEstablishment (draft (now document) (now elements) (now roles) kind) entity ⌝ }
     ensures { λ r. ⌜ r ≡ markOf (broken (draft (now (document .entry)) (now (elements .entry)) (now (roles .entry)) kind) header (tablesAt (now (tables .entry)) places)) n ⌝ }
 {
     let registrations = mark_registrations(
@@ -198,6 +205,8 @@ pub fn mark(
         header,
         tables,
         places,
+        entity,
+        held,
         n,
         0,
     );
@@ -263,8 +272,24 @@ pub fn fill(
 {
     let mut n = 0;
     let mut total = 0;
+    let mut entity = 0;
+    let mut held = registrations::has_establishment(document, elements, roles, kind, 0);
     while n < elements.len() / 4 {
-        let m = mark(document, elements, roles, kind, header, tables, places, n);
+        let at = registrations::entity_at(document, elements, roles, kind, entity, n);
+        held = registrations::held_at(document, elements, roles, kind, entity, held, at);
+        entity = at;
+        let m = mark(
+            document,
+            elements,
+            roles,
+            kind,
+            header,
+            tables,
+            places,
+            entity,
+            held,
+            n,
+        );
         marks[n] = m;
         total += how_many(m);
         n += 1;

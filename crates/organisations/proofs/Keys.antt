@@ -4,18 +4,18 @@ use mathlib.Core.Path.{_≡_, _∙_}
 use mathlib.Core.Bool.{Bool, true, false}
 use Prim.Native.Nat.{ℕ}
 use Rattle.scan.specs.Bytes.{text}
-use Rattle.scan.specs.Choice.{not}
+use Rattle.scan.specs.Choice.{_and_, not}
 use Rattle.scan.specs.declared.Found.{Found}
 use Rattle.scan.specs.declared.Found.the-variants.{At, Nothing}
 use Rattle.facts.specs.Strings.{equal, isLabelerCode}
 use Rattle.paths.specs.declared.Role.the-variants.{Registrant, OrganisationId}
 use Rattle.drafts.specs.declared.Demand.the-variants as demands
-use Rattle.drafts.specs.declared.Test.the-variants.{LabelerRoot}
+use Rattle.drafts.specs.declared.Test.the-variants.{DunsRoot, LabelerRoot}
 use Rattle.drafts.specs.Drafts.{Draft, parent, is, attribute}
-use Rattle.drafts.specs.Chosen.{dunsRoot, labelerRoot, chosen, wanted, onlyOne}
+use Rattle.drafts.specs.Chosen.{dunsRoot, labelerRoot, chosen, wanted, onlyOne, isThe}
 use Rattle.header.specs.declared.Header.{Header}
 use Rattle.header.specs.Header.{setHolds}
-use Rattle.organisations.specs.Organisations.{requester, labelerId, hasExtension, labelerHolds, breaks19, isLabelerId, dunsHolds, isRegistrantId, breaks20, isKey, demand21, demand22}
+use Rattle.organisations.specs.Organisations.{requester, dunsId, labelerId, hasExtension, labelerHolds, breaks19, isLabelerId, isRegistrantId, breaks20, isKey, demand21, demand22}
 
 -- ---- 19
 module _ (d : Draft) (n : ℕ) where
@@ -42,12 +42,19 @@ module _ (d : Draft) (n : ℕ) where
     no-request f = rw (← e, f)
 
 -- ---- the ids
+module _ (d : Draft) (n : ℕ) (a b : Bool) (e : a ≡ b) where
+  pub only-id : a ≡ true → (r : Bool) → r ≡ hasExtension d n → r ≡ b and hasExtension d n
+  only-id f r g = g ∙ rw (← e, f)
+
+  pub no-only-id : a ≡ false → false ≡ b and hasExtension d n
+  no-only-id f = rw (← e, f)
+
 module _ (d : Draft) (n : ℕ) (a : Bool) (e : a ≡ is d OrganisationId n) where
   module _ (f : a ≡ true) (p : ℕ) (g : p ≡ parent d n) (b : Bool) where
     module _ (h : b ≡ requester d p) where
       module _ (i : b ≡ true) (c : Bool) (j : c ≡ equal (attribute d n (text "root")) labelerRoot) where
-        pub labeler-id-there : c ≡ true → (r : Bool) → r ≡ labelerHolds d p → r ≡ isLabelerId d n
-        unfolding isLabelerId
+        pub labeler-id-there : c ≡ true → (r : Bool) → r ≡ isThe (onlyOne (chosen d (wanted OrganisationId 1 LabelerRoot) p)) n and hasExtension d n → r ≡ isLabelerId d n
+        unfolding isLabelerId labelerId
         labeler-id-there k r l = l ∙ rw (← e, f, ← g, ← h, i, ← j, k)
 
         pub labeler-id-other : c ≡ false → false ≡ isLabelerId d n
@@ -60,8 +67,8 @@ module _ (d : Draft) (n : ℕ) (a : Bool) (e : a ≡ is d OrganisationId n) wher
 
     module _ (h : b ≡ is d Registrant p) where
       module _ (i : b ≡ true) (c : Bool) (j : c ≡ equal (attribute d n (text "root")) dunsRoot) where
-        pub registrant-id-there : c ≡ true → (r : Bool) → r ≡ dunsHolds d p → r ≡ isRegistrantId d n
-        unfolding isRegistrantId
+        pub registrant-id-there : c ≡ true → (r : Bool) → r ≡ isThe (onlyOne (chosen d (wanted OrganisationId 1 DunsRoot) p)) n and hasExtension d n → r ≡ isRegistrantId d n
+        unfolding isRegistrantId dunsId
         registrant-id-there k r l = l ∙ rw (← e, f, ← g, ← h, i, ← j, k)
 
         pub registrant-id-other : c ≡ false → false ≡ isRegistrantId d n

@@ -7,10 +7,11 @@ use Rattle.scan.specs.Choice.{not}
 use Rattle.scan.specs.declared.Found.{Found}
 use Rattle.scan.specs.declared.Found.the-variants.{At, Nothing}
 use Rattle.paths.specs.declared.Role.the-variants.{OrganisationName}
+use Rattle.drafts.specs.declared.Demand.{Demand}
 use Rattle.drafts.specs.declared.Demand.the-variants as demands
 use Rattle.drafts.specs.Drafts.{Draft, parent, is}
-use Rattle.drafts.specs.Chosen.{one, onlyKid}
-use Rattle.organisations.specs.Organisations.{isOrganisation, dunsId, hasExtension, dunsHolds, breaks16, isSaid, nameHolds, isName, breaks17, demand18}
+use Rattle.drafts.specs.Chosen.{one, isThe, onlyKid}
+use Rattle.organisations.specs.Organisations.{isOrganisation, dunsId, hasExtension, dunsHolds, breaks16, isSaid, isName, breaks17, rowOf, demand18}
 
 -- ---- 16
 module _ (d : Draft) (n : ℕ) (a : Bool) (e : a ≡ isOrganisation d n) where
@@ -23,19 +24,15 @@ module _ (d : Draft) (n : ℕ) (a : Bool) (e : a ≡ isOrganisation d n) where
   duns-not-judged f = rw (← e, f)
 
 -- ---- the name
-module _ (d : Draft) (n : ℕ) (x : Found) (e : x ≡ onlyKid d n OrganisationName) where
-  pub name-none : x ≡ Nothing → false ≡ nameHolds d n
-  unfolding nameHolds
-  name-none f = rw (← e, f)
-
-  pub name-one : (k : ℕ) → x ≡ At k → (r : Bool) → r ≡ isSaid d k → r ≡ nameHolds d n
-  unfolding nameHolds
-  name-one k f r g = g ∙ rw (← e, f)
-
 module _ (d : Draft) (n : ℕ) (a : Bool) (e : a ≡ is d OrganisationName n) where
-  pub name-judged : a ≡ true → (p : ℕ) → p ≡ parent d n → (r : Bool) → r ≡ isOrganisation d p → r ≡ isName d n
-  unfolding isName
-  name-judged f p g r h = h ∙ rw (← e, f, g)
+  module _ (f : a ≡ true) (p : ℕ) (g : p ≡ parent d n) (b : Bool) (h : b ≡ isOrganisation d p) where
+    pub name-judged : b ≡ true → (r : Bool) → r ≡ isThe (onlyKid d p OrganisationName) n → r ≡ isName d n
+    unfolding isName
+    name-judged i r j = j ∙ rw (← e, f, ← g, ← h, i)
+
+    pub name-elsewhere : b ≡ false → false ≡ isName d n
+    unfolding isName
+    name-elsewhere i = rw (← e, f, ← g, ← h, i)
 
   pub no-name : a ≡ false → false ≡ isName d n
   unfolding isName
@@ -48,39 +45,38 @@ module _ (d : Draft) (n : ℕ) (a : Bool) (e : a ≡ isOrganisation d n) where
   wrong-names f r g = rw (← e, f, g)
 
   module _ (f : a ≡ false) (b : Bool) (g : b ≡ isName d n) where
-    module _ (h : b ≡ true) (p : ℕ) (i : p ≡ parent d n) (c : Bool) (j : c ≡ one (onlyKid d p OrganisationName)) where
-      pub wrong-name : c ≡ true → (r : Bool) → r ≡ isSaid d n → not r ≡ breaks17 d n
-      unfolding breaks17
-      wrong-name k r l = rw (← e, f, ← g, h, ← i, ← j, k, l)
-
-      pub not-one-name : c ≡ false → false ≡ breaks17 d n
-      unfolding breaks17
-      not-one-name k = rw (← e, f, ← g, h, ← i, ← j, k)
+    pub wrong-name : b ≡ true → (r : Bool) → r ≡ isSaid d n → not r ≡ breaks17 d n
+    unfolding breaks17
+    wrong-name h r l = rw (← e, f, ← g, h, l)
 
     pub neither : b ≡ false → false ≡ breaks17 d n
     unfolding breaks17
     neither h = rw (← e, f, ← g, h)
 
 -- ---- 18
+module _ (d : Draft) (p n : ℕ) (x : Found) (h : x ≡ dunsId d p) where
+  pub row-without-duns : x ≡ Nothing → demands.Nothing ≡ rowOf d p n
+  unfolding rowOf dunsHolds
+  row-without-duns i = rw (← h, i)
+
+  module _ (k : ℕ) (i : x ≡ At k) (b : Bool) (j : b ≡ hasExtension d k) where
+    pub row-of-name : b ≡ true → demands.NameRow k n ≡ rowOf d p n
+    unfolding rowOf dunsHolds
+    row-of-name l = rw (← h, i, ← j, l)
+
+    pub row-without-extension : b ≡ false → demands.Nothing ≡ rowOf d p n
+    unfolding rowOf dunsHolds
+    row-without-extension l = rw (← h, i, ← j, l)
+
 module _ (d : Draft) (n : ℕ) (a : Bool) (e : a ≡ isName d n) where
-  module _ (f : a ≡ true) (p : ℕ) (g : p ≡ parent d n) (c : Bool) (m : c ≡ nameHolds d p) where
+  module _ (f : a ≡ true) (c : Bool) (m : c ≡ isSaid d n) where
+    pub row-demanded : c ≡ true → (p : ℕ) → p ≡ parent d n → (r : Demand) → r ≡ rowOf d p n → r ≡ demand18 d n
+    unfolding demand18
+    row-demanded o p g r h = h ∙ rw (← e, f, ← m, o, g)
+
     pub row-without-name : c ≡ false → demands.Nothing ≡ demand18 d n
     unfolding demand18
-    row-without-name o = rw (← e, f, ← g, ← m, o)
-
-    module _ (o : c ≡ true) (x : Found) (h : x ≡ dunsId d p) where
-      pub row-without-duns : x ≡ Nothing → demands.Nothing ≡ demand18 d n
-      unfolding demand18 dunsHolds
-      row-without-duns i = rw (← e, f, ← g, ← m, o, ← h, i)
-
-      module _ (k : ℕ) (i : x ≡ At k) (b : Bool) (j : b ≡ hasExtension d k) where
-        pub row-of-name : b ≡ true → demands.NameRow k n ≡ demand18 d n
-        unfolding demand18 dunsHolds
-        row-of-name l = rw (← e, f, ← g, ← m, o, ← h, i, ← j, l)
-
-        pub row-without-extension : b ≡ false → demands.Nothing ≡ demand18 d n
-        unfolding demand18 dunsHolds
-        row-without-extension l = rw (← e, f, ← g, ← m, o, ← h, i, ← j, l)
+    row-without-name o = rw (← e, f, ← m, o)
 
   pub row-of-no-name : a ≡ false → demands.Nothing ≡ demand18 d n
   unfolding demand18

@@ -17,7 +17,7 @@ use Rattle.drafts.specs.declared.Demand.{Demand}
 use Rattle.drafts.specs.declared.Demand.the-variants.{NameRow, NoKeyElsewhere, NoOtherKey}
 use Rattle.drafts.specs.declared.Test.the-variants.{DunsRoot, LabelerRoot}
 use Rattle.drafts.specs.Drafts.{Draft, parent, is, attribute, said, isEmpty}
-use Rattle.drafts.specs.Chosen.{dunsRoot, labelerRoot, attributeIs, chosen, wanted, kids, onlyOne, one, oneHas, the, onlyKid}
+use Rattle.drafts.specs.Chosen.{dunsRoot, labelerRoot, attributeIs, chosen, wanted, kids, onlyOne, one, oneHas, the, isThe, onlyKid}
 use Rattle.drafts.specs.Demands.{demandIf}
 use Rattle.header.specs.declared.Header.{Header}
 use Rattle.header.specs.Header.{setHolds}
@@ -81,22 +81,21 @@ breaks16 d n = isOrganisation d n and not (dunsHolds d n)
 unfoldable pub isSaid : Draft → ℕ → Bool
 isSaid d k = not (isEmpty (said d k))
 
-unfoldable pub nameHolds : Draft → ℕ → Bool
-nameHolds d n = oneHas (onlyKid d n OrganisationName) (isSaid d)
-
--- n is the name of an organisation that is judged
+-- n is the one name of an organisation that is judged
 unfoldable pub isName : Draft → ℕ → Bool
-isName d n = is d OrganisationName n and isOrganisation d (parent d n)
+isName d n =
+    is d OrganisationName n and isOrganisation d (parent d n) and isThe (onlyKid d (parent d n) OrganisationName) n
 
 unfoldable pub breaks17 : Draft → ℕ → Bool
 breaks17 d n =
-    pick (isOrganisation d n) (not (one (onlyKid d n OrganisationName)))
-    (isName d n and one (onlyKid d (parent d n) OrganisationName) and not (isSaid d n))
+    pick (isOrganisation d n) (not (one (onlyKid d n OrganisationName))) (isName d n and not (isSaid d n))
 
--- 18: at name
+-- 18: the row with the extension of organisation p's one id and the name n; at name
+unfoldable pub rowOf : Draft → ℕ → ℕ → Demand
+rowOf d p n = demandIf (dunsHolds d p) (NameRow (the (dunsId d p)) n)
+
 unfoldable pub demand18 : Draft → ℕ → Demand
-demand18 d n =
-    demandIf (isName d n and nameHolds d (parent d n) and dunsHolds d (parent d n)) (NameRow (the (dunsId d (parent d n))) n)
+demand18 d n = demandIf (isName d n and isSaid d n) (rowOf d (parent d n) n)
 
 -- ---- 19: the labeler of a request
 unfoldable pub labelerHolds : Draft → ℕ → Bool
@@ -109,12 +108,12 @@ breaks19 d n = requester d n and not (labelerHolds d n)
 unfoldable pub isLabelerId : Draft → ℕ → Bool
 isLabelerId d n =
     is d OrganisationId n and requester d (parent d n) and attributeIs d (text "root") labelerRoot n
-    and labelerHolds d (parent d n)
+    and isThe (labelerId d (parent d n)) n and hasExtension d n
 
 unfoldable pub isRegistrantId : Draft → ℕ → Bool
 isRegistrantId d n =
     is d OrganisationId n and is d Registrant (parent d n) and attributeIs d (text "root") dunsRoot n
-    and dunsHolds d (parent d n)
+    and isThe (dunsId d (parent d n)) n and hasExtension d n
 
 -- 20: at that id
 unfoldable pub breaks20 : Draft → ℕ → Bool

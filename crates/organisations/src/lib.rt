@@ -1,9 +1,11 @@
 // Procedures 14 to 22: the organisations of a draft.
 ghost use mathlib.Core.Path.{_≡_};
 ghost use Rattle.drafts.specs.Drafts.{draft};
-ghost use Rattle.drafts.specs.Chosen.{one, onlyKid};
-ghost use Rattle.organisations.specs.Organisations.{isRequest, requester, isOrganisation, isSaid, hasExtension, dunsId, dunsHolds, lacks, lacksUpper, lacksLower, rightIds, nameHolds, isName, labelerId, labelerHolds, isLabelerId, isRegistrantId, isKey};
-ghost use Rattle.organisations.specs.Organisations.{breaks14, breaks15, breaks16, breaks17, demand18, breaks19, breaks20, demand21, demand22};
+ghost use Rattle.scan.specs.Choice.{_and_};
+ghost use Rattle.paths.specs.declared.Role.the-variants.{OrganisationId};
+ghost use Rattle.drafts.specs.Chosen.{chosen, wanted, onlyOne, one, isThe, onlyKid};
+ghost use Rattle.organisations.specs.Organisations.{isRequest, requester, isOrganisation, isSaid, hasExtension, dunsId, dunsHolds, lacks, lacksUpper, lacksLower, rightIds, isName, labelerId, labelerHolds, isLabelerId, isRegistrantId, isKey};
+ghost use Rattle.organisations.specs.Organisations.{breaks14, breaks15, breaks16, breaks17, rowOf, demand18, breaks19, breaks20, demand21, demand22};
 use drafts::Demand;
 use drafts::Test;
 use drafts::Wanted;
@@ -11,6 +13,8 @@ use drafts::attribute_is;
 use drafts::attribute_is_empty;
 use drafts::attribute_is_labeler_code;
 use drafts::how_many;
+use drafts::is_only;
+use drafts::is_only_kid;
 use drafts::is_role;
 use drafts::only;
 use drafts::only_kid;
@@ -120,7 +124,7 @@ pub fn is_said(
 }
 
 // Whether element n has one child of this role.
-fn has_one(
+pub fn has_one(
     document: &[u8],
     elements: &[u32],
     roles: &[u8],
@@ -288,23 +292,17 @@ pub fn breaks_16(
     false
 }
 
-// Whether 17 holds of organisation n.
-fn name_holds(document: &[u8], elements: &[u32], roles: &[u8], kind: DocumentType, n: usize) -> bool
-    ensures { λ r. ⌜ r ≡ nameHolds (draft (now (document .entry)) (now (elements .entry)) (now (roles .entry)) kind) n ⌝ }
-{
-    let Found::At(k) = only_kid(document, elements, roles, kind, n, Role::OrganisationName) else {
-        return false;
-    };
-    is_said(document, elements, roles, kind, k)
-}
-
-// Whether element n is the name of an organisation that is judged.
+// Whether element n is the one name of an organisation that is judged.
 fn is_name(document: &[u8], elements: &[u32], roles: &[u8], kind: DocumentType, n: usize) -> bool
     ensures { λ r. ⌜ r ≡ isName (draft (now (document .entry)) (now (elements .entry)) (now (roles .entry)) kind) n ⌝ }
 {
     if is_role(document, elements, roles, kind, n, Role::OrganisationName) {
         let holder = parent(document, elements, roles, kind, n);
-        return is_organisation(document, elements, roles, kind, holder);
+        if is_organisation(document, elements, roles, kind, holder) {
+            let name = Role::OrganisationName;
+            return is_only_kid(document, elements, roles, kind, holder, name, n);
+        }
+        return false;
     }
     false
 }
@@ -323,23 +321,32 @@ pub fn breaks_17(
         return !has_one(document, elements, roles, kind, n, Role::OrganisationName);
     }
     if is_name(document, elements, roles, kind, n) {
-        let holder = parent(document, elements, roles, kind, n);
-        if has_one(
-            document,
-            elements,
-            roles,
-            kind,
-            holder,
-            Role::OrganisationName,
-        ) {
-            return !is_said(document, elements, roles, kind, n);
-        }
-        return false;
+        return !is_said(document, elements, roles, kind, n);
     }
     false
 }
 
-// What 18 demands of element n: the row of the register with the extension of the organisation's id and this name.
+// What 18 demands for the name n of an organisation: the row of the register with the extension of its one id and this name.
+fn row_of(
+    document: &[u8],
+    elements: &[u32],
+    roles: &[u8],
+    kind: DocumentType,
+    holder: usize,
+    n: usize,
+) -> Demand
+    ensures { λ r. ⌜ r ≡ rowOf (draft (now (document .entry)) (now (elements .entry)) (now (roles .entry)) kind) holder n ⌝ }
+{
+    let Found::At(k) = duns_id(document, elements, roles, kind, holder) else {
+        return Demand::Nothing;
+    };
+    if has_extension(document, elements, roles, kind, k) {
+        return Demand::NameRow(k, n);
+    }
+    Demand::Nothing
+}
+
+// What 18 demands of element n.
 pub fn demand_18(
     document: &[u8],
     elements: &[u32],
@@ -350,15 +357,9 @@ pub fn demand_18(
     ensures { λ r. ⌜ r ≡ demand18 (draft (now (document .entry)) (now (elements .entry)) (now (roles .entry)) kind) n ⌝ }
 {
     if is_name(document, elements, roles, kind, n) {
-        let holder = parent(document, elements, roles, kind, n);
-        if name_holds(document, elements, roles, kind, holder) {
-            let Found::At(k) = duns_id(document, elements, roles, kind, holder) else {
-                return Demand::Nothing;
-            };
-            if has_extension(document, elements, roles, kind, k) {
-                return Demand::NameRow(k, n);
-            }
-            return Demand::Nothing;
+        if is_said(document, elements, roles, kind, n) {
+            let holder = parent(document, elements, roles, kind, n);
+            return row_of(document, elements, roles, kind, holder, n);
         }
         return Demand::Nothing;
     }
@@ -415,6 +416,29 @@ pub fn breaks_19(
     false
 }
 
+// Whether element n, of those with its root the only id of its holder, has an extension.
+fn is_only_id(
+    document: &[u8],
+    elements: &[u32],
+    roles: &[u8],
+    kind: DocumentType,
+    root: Test,
+    holder: usize,
+    n: usize,
+) -> bool
+    ensures { λ r. ⌜ r ≡ isThe (onlyOne (chosen (draft (now (document .entry)) (now (elements .entry)) (now (roles .entry)) kind) (wanted OrganisationId 1 root) holder)) n and hasExtension (draft (now (document .entry)) (now (elements .entry)) (now (roles .entry)) kind) n ⌝ }
+{
+    let wanted = Wanted {
+        role: Role::OrganisationId,
+        levels: 1,
+        test: root,
+    };
+    if is_only(document, elements, roles, kind, wanted, holder, n) {
+        return has_extension(document, elements, roles, kind, n);
+    }
+    false
+}
+
 // Whether element n is the id that 19 speaks of.
 fn is_labeler_id(
     document: &[u8],
@@ -437,7 +461,8 @@ fn is_labeler_id(
                 b"root",
                 b"2.16.840.1.113883.6.69",
             ) {
-                return labeler_holds(document, elements, roles, kind, holder);
+                let root = Test::LabelerRoot;
+                return is_only_id(document, elements, roles, kind, root, holder, n);
             }
             return false;
         }
@@ -468,7 +493,8 @@ fn is_registrant_id(
                 b"root",
                 b"1.3.6.1.4.1.519.1",
             ) {
-                return duns_holds(document, elements, roles, kind, holder);
+                let root = Test::DunsRoot;
+                return is_only_id(document, elements, roles, kind, root, holder, n);
             }
             return false;
         }

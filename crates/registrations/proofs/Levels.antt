@@ -1,6 +1,6 @@
 -- The organisations below one another, 31 and 32, and the entity of an establishment, 37 and 38: one law for each branch of the code.
 -- Assumes nothing.
-use mathlib.Core.Path.{_≡_, _∙_}
+use mathlib.Core.Path.{_≡_, sym, _∙_, ap}
 use mathlib.Core.Bool.{Bool, true, false}
 use mathlib.Core.List.{List}
 use Prim.Native.Nat.{ℕ}
@@ -13,7 +13,7 @@ use Rattle.drafts.specs.declared.Test.the-variants.{Any}
 use Rattle.drafts.specs.Drafts.{Draft, draft, is, isEmpty}
 use Rattle.drafts.specs.Chosen.{ancestor, chosen, wanted, onlyOne}
 use Rattle.organisations.specs.Organisations.{isRequest}
-use Rattle.registrations.specs.Registrations.{breaks31, breaks32, ofNci, hasEstablishment, breaks37, breaks38}
+use Rattle.registrations.specs.Registrations.{breaks31, breaks32, ofNci, hasEstablishment, entityAt, breaks37, breaks38}
 
 -- ---- 31
 module _ (s rows roles : List ℕ) (t : DocumentType) (n : ℕ) (a : Bool) (e : a ≡ is (draft s rows roles t) Labeler n) where
@@ -64,6 +64,19 @@ module _ (d : Draft) (n : ℕ) (a : Bool) (e : a ≡ hasEstablishment d n) where
   pub none-37 : a ≡ true → (r : Bool) → r ≡ isEmpty (chosen d (wanted OperationCode 3 Any) n) → r ≡ breaks37 d n
   unfolding breaks37
   none-37 f r g = g ∙ rw (← e, f)
+
+-- ---- the entity that was met last
+module _ (d : Draft) (last n : ℕ) where
+  pub entity-here : (a : Bool) → a ≡ is d Entity3 n → a ≡ true → n ≡ entityAt d last n
+  unfolding entityAt
+  entity-here a e f = rw (← e, f)
+
+  pub entity-before : (a : Bool) → a ≡ is d Entity3 n → a ≡ false → last ≡ entityAt d last n
+  unfolding entityAt
+  entity-before a e f = rw (← e, f)
+
+  pub held-before : (held : Bool) → held ≡ hasEstablishment d last → n ≡ last → held ≡ hasEstablishment d n
+  held-before held e f = e ∙ ap (hasEstablishment d) (sym f)
 
 -- ---- 38
 module _ (d : Draft) (n : ℕ) (a : Bool) (e : a ≡ is d OperationCode n) where

@@ -4,7 +4,7 @@
 use Prim.Native.Nat.{ℕ}
 use mathlib.Core.Bool.{Bool}
 use mathlib.Core.List.{List}
-use Rattle.scan.specs.Choice.{_or_, _and_, not}
+use Rattle.scan.specs.Choice.{pick, _or_, _and_, not}
 use Rattle.scan.specs.Bytes.{text}
 use Rattle.scan.specs.declared.Found.{Found}
 use Rattle.paths.specs.declared.Role.the-variants.{Labeler, Registrant, Entity3, Establishment, Entity4, Addr, OperationCode}
@@ -61,6 +61,10 @@ breaks36 d n =
 -- ---- 37 and 38: the entity of an establishment
 unfoldable pub hasEstablishment : Draft → ℕ → Bool
 hasEstablishment d n = is d Entity3 n and not (isEmpty (kids d n Establishment))
+
+-- the entity of level 3 that was met last, where n follows
+unfoldable pub entityAt : Draft → ℕ → ℕ → ℕ
+entityAt d last n = pick (is d Entity3 n) n last
 
 unfoldable pub breaks37 : Draft → ℕ → Bool
 breaks37 d n = hasEstablishment d n and isEmpty (operations d n)

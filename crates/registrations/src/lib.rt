@@ -1,7 +1,7 @@
 // Procedures 31 to 38: what a registration holds, and the operation codes.
 ghost use mathlib.Core.Path.{_≡_};
 ghost use Rattle.drafts.specs.Drafts.{draft};
-ghost use Rattle.registrations.specs.Registrations.{breaks31, breaks32, ofNci, isAgency, breaks33, demand34, inUsa, breaks35, breaks36, hasEstablishment, breaks37, breaks38};
+ghost use Rattle.registrations.specs.Registrations.{breaks31, breaks32, ofNci, isAgency, breaks33, demand34, inUsa, breaks35, breaks36, hasEstablishment, entityAt, breaks37, breaks38};
 use contacts::address_holds;
 use contacts::is_usa;
 use drafts::Demand;
@@ -207,7 +207,7 @@ pub fn breaks_36(
 }
 
 // Whether element n is the entity of an establishment.
-fn has_establishment(
+pub fn has_establishment(
     document: &[u8],
     elements: &[u32],
     roles: &[u8],
@@ -225,6 +225,42 @@ fn has_establishment(
         test: Test::Any,
     };
     !none(document, elements, roles, kind, establishment, n)
+}
+
+// The entity of level 3 that was met last: n, or the one before it.
+pub fn entity_at(
+    document: &[u8],
+    elements: &[u32],
+    roles: &[u8],
+    kind: DocumentType,
+    last: usize,
+    n: usize,
+) -> usize
+    ensures { λ r. ⌜ r ≡ entityAt (draft (now (document .entry)) (now (elements .entry)) (now (roles .entry)) kind) last n ⌝ }
+{
+    if is_role(document, elements, roles, kind, n, Role::Entity3) {
+        return n;
+    }
+    last
+}
+
+// Whether element n is the entity of an establishment, where that was found out before of `last`.
+pub fn held_at(
+    document: &[u8],
+    elements: &[u32],
+    roles: &[u8],
+    kind: DocumentType,
+    last: usize,
+    held: bool,
+    n: usize,
+) -> bool
+    requires { ⌜ held ≡ hasEstablishment (draft (now document) (now elements) (now roles) kind) last ⌝ }
+    ensures { λ r. ⌜ r ≡ hasEstablishment (draft (now (document .entry)) (now (elements .entry)) (now (roles .entry)) kind) n ⌝ }
+{
+    if n == last {
+        return held;
+    }
+    has_establishment(document, elements, roles, kind, n)
 }
 
 // Whether 37 is broken at element n.
@@ -248,14 +284,18 @@ pub fn breaks_37(
     none(document, elements, roles, kind, operation, n)
 }
 
-// Whether 38 is broken at element n.
+// Whether 38 is broken at element n, where it was found out before whether `entity` is the entity of an establishment. In document order an
+// operation code's entity is the one of level 3 that was met last.
 pub fn breaks_38(
     document: &[u8],
     elements: &[u32],
     roles: &[u8],
     kind: DocumentType,
+    entity: usize,
+    held: bool,
     n: usize,
 ) -> bool
+    requires { ⌜ held ≡ hasEstablishment (draft (now document) (now elements) (now roles) kind) entity ⌝ }
     ensures { λ r. ⌜ r ≡ breaks38 (draft (now (document .entry)) (now (elements .entry)) (now (roles .entry)) kind) n ⌝ }
 {
     if !is_role(document, elements, roles, kind, n, Role::OperationCode) {
@@ -264,6 +304,6 @@ pub fn breaks_38(
     if of_nci(document, elements, roles, kind, n) {
         return false;
     }
-    let entity = ancestor(document, elements, roles, kind, 3, n);
-    has_establishment(document, elements, roles, kind, entity)
+    let above = ancestor(document, elements, roles, kind, 3, n);
+    held_at(document, elements, roles, kind, entity, held, above)
 }

@@ -29,10 +29,6 @@ module _ (s rows : List ℕ) (t : DocumentType) (n : ℕ) (h : n < length rows /
         role-child s rows t n z (ltb f (length s)) (row-there s rows n h p q g f i) (lt-ltb f (length s) j) p q a r
         (k ∙ ap (roleOf s rows t) (sym q)) (name-below s rows n t a r f e i l m)
 
--- behind the first byte the document goes on, or ends
-pub name-there : (s : List ℕ) (f : ℕ) → f < length s → f + 1 ≤ length s
-name-there s f h = omega arith
-
 -- a parent whose role was asked for
 pub same-parent : (s rows : List ℕ) (t : DocumentType) (p : ℕ) (a : Role) → a ≡ roleOf s rows t p → (n k : ℕ) → k ≡ getD rows (4 * n + 1) 0 → k ≡ p → a ≡ roleOf s rows t (parentOf rows n)
 same-parent s rows t p a e n k f g = e ∙ ap (roleOf s rows t) (sym g ∙ f)

@@ -48,8 +48,8 @@ use Rattle.values.specs.Texts.{contentOf, contentAt, stepOf, stepAt, con
 use Rattle.values.specs.Texts as texts
 use Rattle.values.specs.declared.View.{View}
 use Rattle.values.specs.declared.View.the-variants.{Scratch}
-use Rattle.values.specs.Views.{isShown, seen, InRange, Shows}
-use Rattle.values.proofs.Views.{shown-plain, Says, shows-front, in-range, seen-is}
+use Rattle.values.specs.Views.{isShown, plainOf, seen, InRange, Shows}
+use Rattle.values.proofs.Views.{shown-plain, Says, AsItStands, plain-stands, shows-front, in-range, seen-is}
 
 -- ---- the end of a tag: the row from the tag's name on ends as the row from i on
 abbrev pub TagEnds : List ℕ → ℕ → ℕ → Type 0
@@ -469,3 +469,16 @@ module _ (s : List ℕ) (first : ℕ) (scratch : List ℕ) (view : View) (after 
 
   pub text-seen : (r : List ℕ) → r ≡ seen s after view → r ≡ textOf s first
   text-seen r e = e ∙ seen-is s (textOf s first) scratch room (textPlace s first) (text-says s first) view after x
+
+module _ (s : List ℕ) (first : ℕ) (p : Place) (ep : p ≡ plainOf s (textPlace s first)) (a e : ℕ) (z : p ≡ At a e) where
+  stands : AsItStands s (textOf s first) (At a e)
+  stands = rw (sym ep ∙ z) at (plain-stands s (textOf s first) (textPlace s first) (text-says s first))
+
+  pub plain-text-ahead : a ≤ e
+  plain-text-ahead = stands .0
+
+  pub plain-text-inside : e ≤ length s
+  plain-text-inside = stands .1
+
+  pub plain-text-says : part s a e ≡ textOf s first
+  plain-text-says = stands .2

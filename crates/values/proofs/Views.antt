@@ -15,14 +15,15 @@ use Rattle.scan.specs.Lists.{every}
 use Rattle.scan.proofs.Tests.{and-left, and-right, and-false}
 use Rattle.scan.proofs.Lists.{Every, every-goes, every-stops}
 use Rattle.reader.specs.Limits.{valueLimit}
-use Rattle.references.specs.Decoded.{part, decoded, isPlain}
+use Rattle.facts.specs.Strings.{equal}
+use Rattle.references.specs.Decoded.{replaced, part, decoded, isPlain}
 use Rattle.references.proofs.Replaced.{decoded-most, plain-same}
 use Rattle.values.specs.declared.Place.{Place}
 use Rattle.values.specs.declared.Place.the-variants.{At, Nothing}
 use Rattle.values.specs.declared.View.{View}
 use Rattle.values.specs.declared.View.the-variants.{Document, Scratch}
 use Rattle.values.specs.Attributes.{attributePlace, valueAt, attributeOf}
-use Rattle.values.specs.Views.{isShown, viewOf, scratchAfter, seen, InRange, Shows}
+use Rattle.values.specs.Views.{isShown, viewOf, plainOf, scratchAfter, seen, InRange, Shows}
 use Rattle.values.proofs.Attributes.{Within, attribute-within}
 
 -- ---- the loop over raw bytes
@@ -57,6 +58,21 @@ module _ (s : List ℕ) (place : Place) (bytes out : List ℕ) (p : Place) (ep :
     pub shows-front : (n : ℕ) (out′ : List ℕ) → t ≡ false → (n ≡ length bytes) × (out′ ≡ bytes ++ drop n out) → Shows s place bytes out (Scratch n) out′
     unfolding viewOf scratchAfter
     shows-front n out′ f g = record { answers = rw (← ep, z, ← et, f, g .0); leaves = rw (← ep, z, ← et, f, ← (g .0)) (g .1) }
+
+-- ---- where it says the bytes there, by the same tests
+module _ (s : List ℕ) (place p : Place) (ep : p ≡ place) where
+  pub plain-nothing : p ≡ Nothing → At 0 0 ≡ plainOf s place
+  unfolding plainOf
+  plain-nothing z = rw (← ep, z)
+
+  module _ (a e : ℕ) (z : p ≡ At a e) (t : Bool) (et : t ≡ every isShown (part s a e)) where
+    pub plain-part : t ≡ true → At a e ≡ plainOf s place
+    unfolding plainOf
+    plain-part f = rw (← ep, z, ← et, f)
+
+    pub not-plain : t ≡ false → Nothing ≡ plainOf s place
+    unfolding plainOf
+    not-plain f = rw (← ep, z, ← et, f)
 
 -- ---- what is seen
 -- a value with this raw place, which is within and within the limit: it says the bytes there, where they are shown as they stand, and never more
@@ -93,6 +109,20 @@ module _ (s bytes scratch : List ℕ) (room : 4096 ≤ length scratch) where
     pub seen-is : seen s after view ≡ bytes
     unfolding Seen
     seen-is = rw (x .leaves, x .answers) (seen-of place k .1)
+
+-- ---- for callers: a value that stands within and says the bytes there
+abbrev pub AsItStands : List ℕ → List ℕ → Place → Type 0
+AsItStands s bytes (At a e) = (a ≤ e) × (e ≤ length s) × (part s a e ≡ bytes)
+AsItStands s bytes Nothing = Unit {0}
+
+pub plain-stands : (s bytes : List ℕ) (place : Place) → Says s place bytes → AsItStands s bytes (plainOf s place)
+unfolding plainOf
+plain-stands s bytes (At a e) k = go (every isShown (part s a e)) refl
+  where
+    go : (t : Bool) → every isShown (part s a e) ≡ t → AsItStands s bytes (pick t (At a e) Nothing)
+    go true q = (k .0, k .1, sym (k .3 q))
+    go false q = tt
+plain-stands s bytes Nothing k = (omega arith, omega arith, sym k)
 
 -- ---- the parts that are shown, for the code
 module _ (s scratch : List ℕ) (view : View) (r : InRange s scratch view) where
@@ -132,3 +162,26 @@ module _ (s : List ℕ) (first : ℕ) (name scratch : List ℕ) (view : View) (a
 
   pub attribute-seen : (r : List ℕ) → r ≡ seen s after view → r ≡ attributeOf s first name
   attribute-seen r e = e ∙ seen-is s (attributeOf s first name) scratch room (attributePlace s first name) (attribute-says s first name) view after x
+
+-- ---- an attribute that says the bytes where it stands, and one that says these bytes
+module _ (s : List ℕ) (first : ℕ) (name : List ℕ) (p : Place) where
+  module _ (ep : p ≡ plainOf s (attributePlace s first name)) (a e : ℕ) (z : p ≡ At a e) where
+    stands : AsItStands s (attributeOf s first name) (At a e)
+    stands = rw (sym ep ∙ z) at (plain-stands s (attributeOf s first name) (attributePlace s first name) (attribute-says s first name))
+
+    pub plain-attribute-ahead : a ≤ e
+    plain-attribute-ahead = stands .0
+
+    pub plain-attribute-inside : e ≤ length s
+    plain-attribute-inside = stands .1
+
+    pub plain-attribute-says : part s a e ≡ attributeOf s first name
+    plain-attribute-says = stands .2
+
+  module _ (bytes : List ℕ) (r : Bool) (ep : p ≡ attributePlace s first name) where
+    pub absent-is : p ≡ Nothing → r ≡ equal (replaced 0 []) bytes → r ≡ equal (attributeOf s first name) bytes
+    unfolding replaced
+    absent-is z h = h ∙ rw (sym ep ∙ z)
+
+    pub value-is : (a e : ℕ) → p ≡ At a e → r ≡ equal (replaced 0 (part s a e)) bytes → r ≡ equal (attributeOf s first name) bytes
+    value-is a e z h = h ∙ rw (sym ep ∙ z)

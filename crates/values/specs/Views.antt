@@ -25,6 +25,11 @@ unfoldable pub viewOf : List ℕ → Place → List ℕ → View
 viewOf s (At a e) bytes = pick (every isShown (part s a e)) (Document a e) (Scratch (length bytes))
 viewOf s Nothing bytes = Document 0 0
 
+-- where a value stands that says the bytes there; an absent one is an empty part. Nothing where it has to be decoded
+unfoldable pub plainOf : List ℕ → Place → Place
+plainOf s (At a e) = pick (every isShown (part s a e)) (At a e) Nothing
+plainOf s Nothing = At 0 0
+
 -- the scratch area then: only the bytes that are shown there change
 unfoldable pub scratchAfter : View → List ℕ → List ℕ → List ℕ
 scratchAfter (Document a e) bytes scratch = scratch

@@ -13,7 +13,7 @@ ghost use Rattle.references.specs.Decoded.{replaced};
 ghost use Rattle.tags.specs.Rows.{ending};
 ghost use Rattle.values.specs.Attributes.{nameAfter, tagFrom, attributePlace, attributeOf, isListed, hasOther};
 ghost use Rattle.values.specs.Texts.{contentOf, contentAt, contentFrom, contentTo, textPlace, saidFrom, textOf};
-ghost use Rattle.values.specs.Views.{isShown, seen, InRange, Shows};
+ghost use Rattle.values.specs.Views.{isShown, plainOf, seen, InRange, Shows};
 ghost use Rattle.values.specs.Compared.{textBehind};
 use pieces::Kind;
 use pieces::Scanned;
@@ -143,6 +143,19 @@ fn all_shown(raw: &[u8]) -> bool
     true
 }
 
+// Where the attribute `name` of the tag that begins at `first` stands, if it says the bytes there.
+pub fn plain_attribute(s: &[u8], first: usize, name: &[u8]) -> Place
+    ensures { λ r. ⌜ r ≡ plainOf (now (s .entry)) (attributePlace (now (s .entry)) first (now (name .entry))) ⌝ }
+{
+    let Place::At(a, e) = attribute_place(s, first, name) else {
+        return Place::At(0, 0);
+    };
+    if all_shown(&s[a..e]) {
+        return Place::At(a, e);
+    }
+    Place::Nothing
+}
+
 // What the attribute `name` of the tag that begins at `first` says, shown as a part of s or in front of `out`.
 pub fn attribute_value(s: &[u8], first: usize, name: &[u8], out: &mut [u8]) -> View
     requires { ⌜ 4096 ≤ length (now out) ⌝ }
@@ -247,6 +260,19 @@ pub fn text_place(s: &[u8], first: usize) -> Place
         Tag::Empty(_) => Place::Nothing,
         Tag::Refused(_) => Place::Nothing,
     }
+}
+
+// Where the text of the element that begins at `first` stands, if it says the bytes there.
+pub fn plain_text(s: &[u8], first: usize) -> Place
+    ensures { λ r. ⌜ r ≡ plainOf (now (s .entry)) (textPlace (now (s .entry)) first) ⌝ }
+{
+    let Place::At(a, e) = text_place(s, first) else {
+        return Place::At(0, 0);
+    };
+    if all_shown(&s[a..e]) {
+        return Place::At(a, e);
+    }
+    Place::Nothing
 }
 
 // Stores what the content from a to e says at the front of `out`, and answers how many bytes that is.
@@ -383,4 +409,14 @@ pub fn is_value(raw: &[u8], bytes: &[u8]) -> bool
         i += w;
     }
     n == bytes.len()
+}
+
+// Whether the attribute `name` of the tag that begins at `first` says these bytes; an absent one says none.
+pub fn attribute_is(s: &[u8], first: usize, name: &[u8], bytes: &[u8]) -> bool
+    ensures { λ r. ⌜ r ≡ equal (attributeOf (now (s .entry)) first (now (name .entry))) (now (bytes .entry)) ⌝ }
+{
+    let Place::At(a, e) = attribute_place(s, first, name) else {
+        return is_value(b"", bytes);
+    };
+    is_value(&s[a..e], bytes)
 }

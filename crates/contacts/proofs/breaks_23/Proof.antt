@@ -12,11 +12,11 @@ has-contact-requires c κs = search needs
 returns : tie.Need-returns
 returns c = search (holds-23, not-true)
 
-one-kid-requires : tie.Need-one-kid-requires
-one-kid-requires c κs = search needs
+has-one-requires : tie.Need-has-one-requires
+has-one-requires c κs = search needs
 
 returns-2 : tie.Need-returns-2
 returns-2 c = search (party-23, not-false)
 
 pub breaks-23-spec : {M : Type 1} → statement M
-breaks-23-spec = tie.close (tie.spec has-contact-requires returns one-kid-requires returns-2)
+breaks-23-spec = tie.close (tie.spec has-contact-requires returns has-one-requires returns-2)

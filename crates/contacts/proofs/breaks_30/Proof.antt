@@ -21,8 +21,8 @@ has-contact-requires c κs = search needs
 returns-2 : tie.Need-returns-2
 returns-2 c = search (nobody-30, not-true, not-false)
 
-one-kid-requires : tie.Need-one-kid-requires
-one-kid-requires c κs = search needs
+is-only-kid-requires : tie.Need-is-only-kid-requires
+is-only-kid-requires c κs = search needs
 
 returns-3 : tie.Need-returns-3
 returns-3 c = search (many-30, not-true, not-false)
@@ -42,7 +42,7 @@ breaks-30-spec =
     parent-requires
     has-contact-requires
     returns-2
-    one-kid-requires
+    is-only-kid-requires
     returns-3
     person-holds-requires
     returns-4)

@@ -1,6 +1,6 @@
 -- `organisations::breaks_17` meets its contract.
 -- Assumes nothing.
-use Rattle.organisations.proofs.Names.{wrong-names, wrong-name, not-one-name, neither}
+use Rattle.organisations.proofs.Names.{wrong-names, wrong-name, neither}
 use borrow.Author.Needs.{needs}
 use Rattle.organisations.proofs.breaks_17.Statement.{statement}
 use Rattle.organisations.proofs.breaks_17.Tie as tie
@@ -17,12 +17,6 @@ returns c = search wrong-names
 is-name-requires : tie.Need-is-name-requires
 is-name-requires c κs = search needs
 
-parent-requires : tie.Need-parent-requires
-parent-requires c κs = search needs
-
-has-one-requires-2 : tie.Need-has-one-requires-2
-has-one-requires-2 c κs = search needs
-
 is-said-requires : tie.Need-is-said-requires
 is-said-requires c κs = search needs
 
@@ -30,10 +24,7 @@ returns-2 : tie.Need-returns-2
 returns-2 c = search wrong-name
 
 returns-3 : tie.Need-returns-3
-returns-3 c = search not-one-name
-
-returns-4 : tie.Need-returns-4
-returns-4 c = search neither
+returns-3 c = search neither
 
 pub breaks-17-spec : {M : Type 1} → statement M
 breaks-17-spec =
@@ -43,9 +34,6 @@ breaks-17-spec =
     has-one-requires
     returns
     is-name-requires
-    parent-requires
-    has-one-requires-2
     is-said-requires
     returns-2
-    returns-3
-    returns-4)
+    returns-3)

@@ -23,8 +23,8 @@ slice-aggregate-attribute-is-2 c = search needs
 attribute-is-requires : tie.Need-attribute-is-requires
 attribute-is-requires c κs = search needs
 
-labeler-holds-requires : tie.Need-labeler-holds-requires
-labeler-holds-requires c κs = search needs
+is-only-id-requires : tie.Need-is-only-id-requires
+is-only-id-requires c κs = search needs
 
 returns : tie.Need-returns
 returns c = search labeler-id-there
@@ -48,7 +48,7 @@ is-labeler-id-spec =
     slice-aggregate-attribute-is
     slice-aggregate-attribute-is-2
     attribute-is-requires
-    labeler-holds-requires
+    is-only-id-requires
     returns
     returns-2
     returns-3

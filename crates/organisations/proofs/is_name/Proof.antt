@@ -1,6 +1,6 @@
 -- `organisations::is_name` meets its contract.
 -- Assumes nothing.
-use Rattle.organisations.proofs.Names.{name-judged, no-name}
+use Rattle.organisations.proofs.Names.{name-judged, name-elsewhere, no-name}
 use borrow.Author.Needs.{needs}
 use Rattle.organisations.proofs.is_name.Statement.{statement}
 use Rattle.organisations.proofs.is_name.Tie as tie
@@ -14,13 +14,26 @@ parent-requires c κs = search needs
 is-organisation-requires : tie.Need-is-organisation-requires
 is-organisation-requires c κs = search needs
 
+is-only-kid-requires : tie.Need-is-only-kid-requires
+is-only-kid-requires c κs = search needs
+
 returns : tie.Need-returns
 returns c = search name-judged
 
 returns-2 : tie.Need-returns-2
-returns-2 c = search no-name
+returns-2 c = search name-elsewhere
+
+returns-3 : tie.Need-returns-3
+returns-3 c = search no-name
 
 pub is-name-spec : {M : Type 1} → statement M
 is-name-spec =
     tie.close
-    (tie.spec is-role-requires parent-requires is-organisation-requires returns returns-2)
+    (tie.spec
+    is-role-requires
+    parent-requires
+    is-organisation-requires
+    is-only-kid-requires
+    returns
+    returns-2
+    returns-3)

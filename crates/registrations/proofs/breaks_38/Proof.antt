@@ -1,8 +1,8 @@
 -- `registrations::breaks_38` meets its contract.
 -- Assumes nothing.
 use Rattle.registrations.proofs.Levels.{other-38, nci-38, entity-38}
-use borrow.Author.Needs.{needs}
 use borrow.Author.Tests.{not-true, not-false}
+use borrow.Author.Needs.{needs}
 use Rattle.registrations.proofs.breaks_38.Statement.{statement}
 use Rattle.registrations.proofs.breaks_38.Tie as tie
 
@@ -21,8 +21,8 @@ returns-2 c = search (nci-38, not-false)
 ancestor-requires : tie.Need-ancestor-requires
 ancestor-requires c κs = search needs
 
-has-establishment-requires : tie.Need-has-establishment-requires
-has-establishment-requires c κs = search needs
+held-at-requires : tie.Need-held-at-requires
+held-at-requires c κs = search needs
 
 returns-3 : tie.Need-returns-3
 returns-3 c = search (entity-38, not-false)
@@ -36,5 +36,5 @@ breaks-38-spec =
     of-nci-requires
     returns-2
     ancestor-requires
-    has-establishment-requires
+    held-at-requires
     returns-3)

@@ -1,8 +1,8 @@
 -- `roles::role_in` meets its contract.
 -- Assumes nothing.
-use Rattle.roles.proofs.Below.{below-late, below-past, below-named, name-there}
+use Rattle.roles.proofs.Below.{below-late, below-past, below-named}
 use Rattle.paths.proofs.Walks.{role-root}
-use Rattle.elements.proofs.Steps.{name-ahead, name-inside}
+use Rattle.elements.proofs.Steps.{name-ahead, name-inside, name-there}
 use borrow.Author.Needs.{needs}
 use Rattle.roles.proofs.role_in.Statement.{statement}
 use Rattle.roles.proofs.role_in.Tie as tie

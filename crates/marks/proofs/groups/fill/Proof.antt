@@ -1,23 +1,37 @@
 -- `marks::groups::fill` meets its contract.
 -- Assumes nothing.
-use borrow.Author.Needs.{needs}
+use mathlib.Core.Path.{_≡_}
+use Rattle.registrations.specs.Registrations.{hasEstablishment}
 use Rattle.marks.specs.Listed.{broken}
 use Rattle.answers.specs.Answers.{tablesAt}
 use Rattle.drafts.specs.Drafts.{draft}
 use lib.ListN.{length}
 use Prim.Native.Nat.{_-_, _/_}
 use Rattle.marks.proofs.Filled.{ToFill, tofill-start, tofill-room, tofill-fits, tofill-next, tofill-over-count, tofill-over-marks}
+use borrow.Author.Needs.{needs}
 use Rattle.marks.proofs.groups.fill.Statement.{statement}
 use Rattle.marks.proofs.groups.fill.Tie as tie
 
 abbrev Inv-loop : tie.InvT-loop
-Inv-loop document elements roles kind header tables places marks₀ n₀ total₀ marks n total = ToFill document elements roles kind (broken (draft document elements roles kind) header (tablesAt tables places)) marks₀ marks n total
+Inv-loop document elements roles kind header tables places marks₀ n₀ total₀ entity₀ held₀ marks n total entity held =
+    ToFill document elements roles kind (broken (draft document elements roles kind) header (tablesAt tables places)) marks₀ marks n total
+    × (held ≡ hasEstablishment (draft document elements roles kind) entity)
 
 abbrev μ-loop : tie.MeasureT-loop
-μ-loop document elements roles kind header tables places marks₀ n₀ total₀ marks n total = length elements / 4 - n
+μ-loop document elements roles kind header tables places marks₀ n₀ total₀ entity₀ held₀ marks n total entity held =
+    length elements / 4 - n
+
+has-establishment-requires : tie.Need-has-establishment-requires Inv-loop μ-loop
+has-establishment-requires c κs = search needs
 
 loop-holds : tie.Need-loop-holds Inv-loop μ-loop
-loop-holds c = search tofill-start
+loop-holds c = (search tofill-start, search needs)
+
+entity-at-requires : tie.Need-entity-at-requires Inv-loop μ-loop
+entity-at-requires c κs = search needs
+
+held-at-requires : tie.Need-held-at-requires Inv-loop μ-loop
+held-at-requires c κs = search needs
 
 mark-requires : tie.Need-mark-requires Inv-loop μ-loop
 mark-requires c κs = search needs
@@ -41,7 +55,7 @@ loop-less : tie.Need-loop-less Inv-loop μ-loop
 loop-less c = search needs
 
 loop-again : tie.Need-loop-again Inv-loop μ-loop
-loop-again c = search tofill-next
+loop-again c = (search tofill-next, search needs)
 
 same-length : tie.Need-same-length Inv-loop μ-loop
 same-length c = search needs
@@ -55,7 +69,10 @@ fill-spec =
     (tie.spec
     Inv-loop
     μ-loop
+    has-establishment-requires
     loop-holds
+    entity-at-requires
+    held-at-requires
     mark-requires
     mul-marks
     slice-write-marks

@@ -1,0 +1,21 @@
+-- `known::breaks_3` meets its contract.
+-- Assumes nothing.
+use Rattle.known.proofs.Laws.{three-known, three-unknown}
+use borrow.Author.Needs.{needs}
+use Rattle.known.proofs.breaks_3.Statement.{statement}
+use Rattle.known.proofs.breaks_3.Tie as tie
+
+is-known-requires : tie.Need-is-known-requires
+is-known-requires c κs = search needs
+
+unlisted-at-requires : tie.Need-unlisted-at-requires
+unlisted-at-requires c κs = search needs
+
+returns : tie.Need-returns
+returns c = search three-known
+
+returns-2 : tie.Need-returns-2
+returns-2 c = search three-unknown
+
+pub breaks-3-spec : {M : Type 1} → statement M
+breaks-3-spec = tie.close (tie.spec is-known-requires unlisted-at-requires returns returns-2)
