@@ -1,14 +1,16 @@
 -- What is asked of the rows is asked with the values that the draft has: one law for each question, and one for each demand.
 -- Assumes nothing.
-use mathlib.Core.Path.{_≡_, refl, sym, _∙_}
+use mathlib.Core.Path.{_≡_, refl, sym, _∙_, ap}
 use mathlib.Core.Bool.{Bool, true, false}
 use mathlib.Core.List.{List, []}
-use Prim.Native.Nat.{ℕ}
+use Prim.Native.Nat.{ℕ, _<_}
+use lib.ListN.{length}
 use Rattle.scan.specs.Choice.{not}
 use Rattle.scan.specs.Bytes.{text}
 use Rattle.lines.specs.Lines.{Row, rowsAt}
 use Rattle.tables.specs.Accepted.{Tables}
 use Rattle.rows.specs.Rows.{someRow, isCode, isName, isDocument, isVersion, isKeyElsewhere, isOtherKey}
+use Rattle.index.specs.SetKeys.{keysOf}
 use Rattle.values.specs.Attributes.{attributeOf}
 use Rattle.values.specs.Texts.{textOf}
 use Rattle.paths.specs.declared.DocumentType.{DocumentType}
@@ -20,6 +22,7 @@ use Rattle.drafts.proofs.Values.{attribute-read, text-read}
 use Rattle.header.specs.Header.{registrationCode, requestCode}
 use Rattle.answers.specs.declared.Places.{Places}
 use Rattle.answers.specs.Answers.{typeCode, tablesAt, isBroken}
+use Rattle.answers.specs.Served.{KeysServed, keysAt, KeysTold, Served}
 
 -- ---- the questions
 module _ (s rows roles : List ℕ) (t : DocumentType) (k at : ℕ) (e : at ≡ first (draft s rows roles t) k) (l : List Row) where
@@ -54,6 +57,31 @@ module _ (t : DocumentType) (k s : List ℕ) (l : List Row) (r : Bool) where
 
   pub key-of-request : t ≡ Request → r ≡ someRow (isKeyElsewhere requestCode k s) l → r ≡ someRow (isKeyElsewhere (typeCode t) k s) l
   key-of-request e g = g ∙ rw e
+
+-- ---- the runs serve the questions that are asked
+module _ (s rows roles : List ℕ) (t : DocumentType) (n from : ℕ) (e : from ≡ first (draft s rows roles t) n) (w : List ℕ) (f : w ≡ attributeOf s from (text "root")) (m : ℕ) (g : n ≡ m) (u : List ℕ) (p : Places) (x : List ℕ) where
+  its-set : attribute (draft s rows roles t) m (text "root") ≡ w
+  its-set = sym (attribute-read s rows roles t n from e (text "root") w f ∙ ap (λ (k : ℕ). attribute (draft s rows roles t) k (text "root")) g)
+
+  pub keys-here : (c : List ℕ) → KeysServed c (attribute (draft s rows roles t) m (text "root")) u p x → KeysServed c w u p x
+  keys-here c l = rw its-set at l
+
+  pub told-here : KeysTold (attribute (draft s rows roles t) m (text "root")) u p x → 0 < length x → keysAt p ≡ keysOf requestCode w u (p .history) (p .nhistory)
+  told-here l h = rw its-set at (l .told h)
+
+module _ (t : DocumentType) (set u : List ℕ) (p : Places) (x : List ℕ) (l : KeysServed (typeCode t) set u p x) where
+  pub none-served : t ≡ Neither → KeysServed [] set u p x
+  none-served e = rw e at l
+
+  pub registration-served : t ≡ Registration → KeysServed registrationCode set u p x
+  registration-served e = rw e at l
+
+  pub request-served : t ≡ Request → KeysServed requestCode set u p x
+  request-served e = rw e at l
+
+pub elsewhere-served : (s rows roles : List ℕ) (t : DocumentType) (u : List ℕ) (p : Places) (codes names keys : List ℕ) → Served (draft s rows roles t) u p codes names keys → KeysServed (typeCode t) (attribute (draft s rows roles t) (p .set) (text "root")) u p keys
+unfolding draft
+elsewhere-served s rows roles t u p codes names keys l = l .elsewhere
 
 -- ---- the demands
 module _ (d : Draft) (t : Tables) (x : Demand) where

@@ -6,11 +6,15 @@ ghost use Rattle.rows.specs.Rows.{someRow, isCode, isName, isDocument, isVersio
 ghost use Rattle.drafts.specs.Drafts.{draft, attribute, said};
 ghost use Rattle.header.specs.Header.{requestCode};
 ghost use Rattle.answers.specs.Answers.{typeCode, tablesAt, isBroken};
+ghost use Rattle.answers.specs.Served.{CodesServed, NamesServed, KeysServed, KeysTold, Served};
 use drafts::Demand;
 use drafts::first_byte;
+use index::Keys;
 use paths::DocumentType;
+use rows::Question;
 
-// Where the rows of each section of a tables file stand, and how many there are.
+// Where the rows of each section of a tables file stand, and how many there are; the setId whose keys in the history are indexed, where its first
+// row stands, and whether its rows have several keys.
 pub struct Places {
     pub codes: usize,
     pub ncodes: usize,
@@ -18,6 +22,9 @@ pub struct Places {
     pub nnames: usize,
     pub history: usize,
     pub nhistory: usize,
+    pub set: usize,
+    pub first: usize,
+    pub several: bool,
 }
 
 // Whether a row of the code list has the code, system and display name of element k.
@@ -28,8 +35,10 @@ fn has_code(
     kind: DocumentType,
     tables: &[u8],
     places: Places,
+    codes: &[u32],
     k: usize,
 ) -> bool
+    requires { ⌜ CodesServed (now tables) places (now codes) ⌝ }
     ensures { λ r. ⌜ r ≡ someRow (isCode (attribute (draft (now (document .entry)) (now (elements .entry)) (now (roles .entry)) kind) k (text "code")) (attribute (draft (now (document .entry)) (now (elements .entry)) (now (roles .entry)) kind) k (text "codeSystem")) (attribute (draft (now (document .entry)) (now (elements .entry)) (now (roles .entry)) kind) k (text "displayName"))) (rowsAt (now (tables .entry)) (places .codes) (places .ncodes)) ⌝ }
 {
     let mut room0 = [0u8; 4096];
@@ -39,7 +48,16 @@ fn has_code(
     let value0 = values::attribute(document, at0, b"code", &mut room0);
     let value1 = values::attribute(document, at0, b"codeSystem", &mut room1);
     let value2 = values::attribute(document, at0, b"displayName", &mut room2);
-    rows::has_code(tables, places.codes, places.ncodes, value0, value1, value2)
+    index::some_row(
+        Question::Code,
+        tables,
+        places.codes,
+        places.ncodes,
+        codes,
+        value0,
+        value1,
+        value2,
+    )
 }
 
 // Whether a row of the register has the number of id i and the name k.
@@ -50,9 +68,11 @@ fn has_name(
     kind: DocumentType,
     tables: &[u8],
     places: Places,
+    names: &[u32],
     i: usize,
     k: usize,
 ) -> bool
+    requires { ⌜ NamesServed (now tables) places (now names) ⌝ }
     ensures { λ r. ⌜ r ≡ someRow (isName (attribute (draft (now (document .entry)) (now (elements .entry)) (now (roles .entry)) kind) i (text "extension")) (said (draft (now (document .entry)) (now (elements .entry)) (now (roles .entry)) kind) k)) (rowsAt (now (tables .entry)) (places .names) (places .nnames)) ⌝ }
 {
     let mut room0 = [0u8; 4096];
@@ -61,7 +81,16 @@ fn has_name(
     let at1 = first_byte(document, elements, roles, kind, k);
     let value0 = values::attribute(document, at0, b"extension", &mut room0);
     let value1 = values::text(document, at1, &mut room1);
-    rows::has_name(tables, places.names, places.nnames, value0, value1)
+    index::some_row(
+        Question::Name,
+        tables,
+        places.names,
+        places.nnames,
+        names,
+        value0,
+        value1,
+        value1,
+    )
 }
 
 // Whether a row of the history has the document id k.
@@ -112,10 +141,12 @@ fn has_key_of(
     kind: DocumentType,
     tables: &[u8],
     places: Places,
+    keys: &[u32],
     code: &[u8],
     k: usize,
     s: usize,
 ) -> bool
+    requires { ⌜ KeysServed (now code) (attribute (draft (now document) (now elements) (now roles) kind) (places .set) (text "root")) (now tables) places (now keys) ⌝ }
     ensures { λ r. ⌜ r ≡ someRow (isKeyElsewhere (now (code .entry)) (attribute (draft (now (document .entry)) (now (elements .entry)) (now (roles .entry)) kind) k (text "extension")) (attribute (draft (now (document .entry)) (now (elements .entry)) (now (roles .entry)) kind) s (text "root"))) (rowsAt (now (tables .entry)) (places .history) (places .nhistory)) ⌝ }
 {
     let mut room0 = [0u8; 4096];
@@ -124,6 +155,18 @@ fn has_key_of(
     let at1 = first_byte(document, elements, roles, kind, s);
     let value0 = values::attribute(document, at0, b"extension", &mut room0);
     let value1 = values::attribute(document, at1, b"root", &mut room1);
+    if s == places.set {
+        return index::some_row(
+            Question::KeyElsewhere,
+            tables,
+            places.history,
+            places.nhistory,
+            keys,
+            code,
+            value0,
+            value1,
+        );
+    }
     rows::has_key_elsewhere(
         tables,
         places.history,
@@ -142,9 +185,11 @@ fn has_key_elsewhere(
     kind: DocumentType,
     tables: &[u8],
     places: Places,
+    keys: &[u32],
     k: usize,
     s: usize,
 ) -> bool
+    requires { ⌜ KeysServed (typeCode kind) (attribute (draft (now document) (now elements) (now roles) kind) (places .set) (text "root")) (now tables) places (now keys) ⌝ }
     ensures { λ r. ⌜ r ≡ someRow (isKeyElsewhere (typeCode kind) (attribute (draft (now (document .entry)) (now (elements .entry)) (now (roles .entry)) kind) k (text "extension")) (attribute (draft (now (document .entry)) (now (elements .entry)) (now (roles .entry)) kind) s (text "root"))) (rowsAt (now (tables .entry)) (places .history) (places .nhistory)) ⌝ }
 {
     match kind {
@@ -155,6 +200,7 @@ fn has_key_elsewhere(
             kind,
             tables,
             places,
+            keys,
             b"",
             k,
             s,
@@ -166,6 +212,7 @@ fn has_key_elsewhere(
             kind,
             tables,
             places,
+            keys,
             b"51725-0",
             k,
             s,
@@ -177,6 +224,7 @@ fn has_key_elsewhere(
             kind,
             tables,
             places,
+            keys,
             b"51726-8",
             k,
             s,
@@ -192,9 +240,11 @@ fn has_other_key(
     kind: DocumentType,
     tables: &[u8],
     places: Places,
+    keys: &[u32],
     k: usize,
     s: usize,
 ) -> bool
+    requires { ⌜ KeysTold (attribute (draft (now document) (now elements) (now roles) kind) (places .set) (text "root")) (now tables) places (now keys) ⌝ }
     ensures { λ r. ⌜ r ≡ someRow (isOtherKey requestCode (attribute (draft (now (document .entry)) (now (elements .entry)) (now (roles .entry)) kind) s (text "root")) (attribute (draft (now (document .entry)) (now (elements .entry)) (now (roles .entry)) kind) k (text "extension"))) (rowsAt (now (tables .entry)) (places .history) (places .nhistory)) ⌝ }
 {
     let mut room0 = [0u8; 4096];
@@ -203,6 +253,23 @@ fn has_other_key(
     let at1 = first_byte(document, elements, roles, kind, k);
     let value0 = values::attribute(document, at0, b"root", &mut room0);
     let value1 = values::attribute(document, at1, b"extension", &mut room1);
+    if 0 < keys.len() {
+        if s == places.set {
+            let told = Keys {
+                first: places.first,
+                several: places.several,
+            };
+            return index::has_other_key(
+                tables,
+                places.history,
+                places.nhistory,
+                b"51726-8",
+                value0,
+                told,
+                value1,
+            );
+        }
+    }
     rows::has_other_key(
         tables,
         places.history,
@@ -221,15 +288,29 @@ pub fn is_broken(
     kind: DocumentType,
     tables: &[u8],
     places: Places,
+    codes: &[u32],
+    names: &[u32],
+    keys: &[u32],
     demand: Demand,
 ) -> bool
+    requires { ⌜ Served (draft (now document) (now elements) (now roles) kind) (now tables) places (now codes) (now names) (now keys) ⌝ }
     ensures { λ r. ⌜ r ≡ isBroken (draft (now (document .entry)) (now (elements .entry)) (now (roles .entry)) kind) (tablesAt (now (tables .entry)) places) demand ⌝ }
 {
     match demand {
         Demand::Nothing => false,
         Demand::Broken => true,
-        Demand::CodeRow(k) => !has_code(document, elements, roles, kind, tables, places, k),
-        Demand::NameRow(i, k) => !has_name(document, elements, roles, kind, tables, places, i, k),
+        Demand::CodeRow(k) => !has_code(document, elements, roles, kind, tables, places, codes, k),
+        Demand::NameRow(i, k) => !has_name(
+            document,
+            elements,
+            roles,
+            kind,
+            tables,
+            places,
+            names,
+            i,
+            k,
+        ),
         Demand::NoDocument(k) => has_document(document, elements, roles, kind, tables, places, k),
         Demand::NoVersion(s, k) => has_version(
             document,
@@ -248,6 +329,7 @@ pub fn is_broken(
             kind,
             tables,
             places,
+            keys,
             k,
             s,
         ),
@@ -258,6 +340,7 @@ pub fn is_broken(
             kind,
             tables,
             places,
+            keys,
             k,
             s,
         ),

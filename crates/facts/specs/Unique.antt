@@ -4,6 +4,7 @@ use Prim.Native.Nat.{ℕ}
 use mathlib.Core.Bool.{Bool}
 use mathlib.Core.List.{List}
 use mathlib.Core.Path.{_≡_}
+use Rattle.scan.specs.Bytes.{lower}
 use Rattle.scan.specs.Unique.{only}
 use Rattle.facts.specs.Strings.{equal, equalInAnyCase, beginsWith, withoutSpace, isGuid, isLabelerCode}
 use Rattle.facts.specs.Numbers.{versionOf}
@@ -38,3 +39,6 @@ module _ (s : List ℕ) (r r′ : Bool) where
 
 pub one-version : (s : List ℕ) (r r′ : ℕ) → r ≡ versionOf s → r′ ≡ versionOf s → r ≡ r′
 one-version s r r′ = only
+
+pub one-lower-case : (b r r′ : ℕ) → r ≡ lower b → r′ ≡ lower b → r ≡ r′
+one-lower-case b r r′ = only

@@ -9,6 +9,7 @@ pub use numbers::version;
 pub use strings::begins_with;
 pub use strings::is_guid;
 pub use strings::is_labeler_code;
+pub use strings::lower_case;
 pub use strings::same;
 pub use strings::same_in_any_case;
 pub use strings::without_space;

@@ -23,7 +23,7 @@ pub fn same(a: &[u8], b: &[u8]) -> bool
 }
 
 // A letter A to Z made small, any other byte as it is.
-fn lower_case(b: u8) -> u8
+pub fn lower_case(b: u8) -> u8
     ensures { λ r. ⌜ r ≡ lower b ⌝ }
 {
     if b < 65 {

@@ -145,7 +145,7 @@ module _ (s file scratch table list : List ℕ) where
         pub refused-4 : (place : ℕ) → x ≡ Accepted.Refused place → Leaves (checkOf s file scratch table list) (Refused 4 place) scratch table list
         refused-4 place f = rw (come, f) record { answers = refl; scratches = refl; tables = refl; lists = refl }
 
-        pub all-accepted : (c cs n ns h hs : ℕ) → x ≡ Accepted.Tables c cs n ns h hs → (r : Answer) (scratch′ table′ list′ : List ℕ) → Leaves (judged s (tablesAt file (record { codes = c; ncodes = cs; names = n; nnames = ns; history = h; nhistory = hs })) scratch table list (elementsOf s)) r scratch′ table′ list′ → Leaves (checkOf s file scratch table list) r scratch′ table′ list′
+        pub all-accepted : (c cs n ns h hs : ℕ) → x ≡ Accepted.Tables c cs n ns h hs → (r : Answer) (scratch′ table′ list′ : List ℕ) → Leaves (judged s (tablesAt file (record { codes = c; ncodes = cs; names = n; nnames = ns; history = h; nhistory = hs; set = 0; first = 0; several = false })) scratch table list (elementsOf s)) r scratch′ table′ list′ → Leaves (checkOf s file scratch table list) r scratch′ table′ list′
         unfolding tablesOf
         all-accepted c cs n ns h hs f r scratch′ table′ list′ l =
             let g : accepted file ≡ Accepted.Tables c cs n ns h hs = sym e ∙ f in

@@ -21,6 +21,9 @@ use Rattle.roles.proofs.Numbers.{filled-front}
 use Rattle.drafts.specs.Drafts.{Draft, draft, count}
 use Rattle.header.specs.declared.Header.{Header}
 use Rattle.header.specs.Header.{headerOf, typeOf}
+use Rattle.answers.specs.declared.Places.{Places}
+use Rattle.answers.specs.Served.{Served}
+use Rattle.serving.specs.Serving.{isLarge}
 use Rattle.marks.specs.Listed.{broken, listed, listedFrom, findingsOf}
 use Rattle.marks.specs.Marks.{marksOf, markedFrom}
 use Rattle.marks.proofs.Digits.{marks-told}
@@ -105,6 +108,27 @@ module _ (s rows : List ℕ) (t : DocumentType) (e : t ≡ typeIn s rows) (u : T
   pub judged-list : (after : List ℕ) → after ≡ listIn (findingsOf (draftAs t s rows) u) list → after ≡ listIn (findingsOf (draftOf s rows) u) list
   unfolding draftOf
   judged-list after f = f ∙ rw e
+
+-- ---- the tables by their runs
+module _ (d : Draft) (u v : Tables) (e : u ≡ v) (list : List ℕ) where
+  pub served-answer : (r : Answer) → r ≡ answerIn (findingsOf d u) list → r ≡ answerIn (findingsOf d v) list
+  served-answer r f = f ∙ rw e
+
+  pub served-list : (after : List ℕ) → after ≡ listIn (findingsOf d u) list → after ≡ listIn (findingsOf d v) list
+  served-list after f = f ∙ rw e
+
+pub is-worth-it : (n m : ℕ) (p : Places) (r : Bool) → r ≡ isLarge n m p → r ≡ true → isLarge n m p ≡ true
+is-worth-it n m p r e f = sym e ∙ f
+
+-- empty runs are not asked
+pub no-runs : (d : Draft) (s : List ℕ) (p : Places) (xs : List ℕ) → Served d s p (take (0 - 0) (drop 0 xs)) (take (0 - 0) (drop 0 xs)) (take (0 - 0) (drop 0 xs))
+no-runs d s p xs =
+    record {
+      code-list = record { index = λ h. absurd (omega (arith, h)) };
+      register = record { index = λ h. absurd (omega (arith, h)) };
+      elsewhere = record { index = λ h. absurd (omega (arith, h)) };
+      others = record { told = λ h. absurd (omega (arith, h)) };
+    }
 
 -- ---- the list by its marks
 module _ (d : Draft) (h : Header) (e : h ≡ headerOf d) (t : Tables) (list : List ℕ) (total : ℕ) (f : total ≡ length (listed d (broken d h t))) where

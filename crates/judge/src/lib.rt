@@ -1,9 +1,12 @@
 // The check: refusals 1 to 11, and the findings of a draft under the tables.
 ghost use mathlib.Core.Path.{_≡_};
+ghost use mathlib.Core.Bool.{true};
 ghost use Prim.Native.Nat.{_/_, _≤_};
 ghost use lib.ListN.{length};
 ghost use Rattle.drafts.specs.Drafts.{draft};
 ghost use Rattle.answers.specs.Answers.{tablesAt};
+ghost use Rattle.answers.specs.Served.{Served};
+ghost use Rattle.serving.specs.Serving.{isLarge};
 ghost use Rattle.marks.specs.Listed.{findingsOf};
 ghost use Rattle.judge.specs.Drafted.{draftAs, typeIn, draftOf};
 ghost use Rattle.judge.specs.Check.{cleared, answerIn, listIn, judged, checkOf, Leaves};
@@ -39,10 +42,13 @@ fn judge_draft(
     kind: DocumentType,
     tables: &[u8],
     places: Places,
+    codes: &[u32],
+    names: &[u32],
+    keys: &[u32],
     marks: &mut [u64],
     list: &mut [u32],
 ) -> Answer
-    requires { ⌜ (length (now elements) / 4 ≤ length (now marks)) × (length (now marks) ≤ 16384) ⌝ }
+    requires { ⌜ (length (now elements) / 4 ≤ length (now marks)) × (length (now marks) ≤ 16384) × Served (draft (now document) (now elements) (now roles) kind) (now tables) places (now codes) (now names) (now keys) ⌝ }
     ensures { λ r. ⌜ (r ≡ answerIn (findingsOf (draft (now (document .entry)) (now (elements .entry)) (now (roles .entry)) kind) (tablesAt (now (tables .entry)) places)) (now (list .entry))) × (now (list .exit) ≡ listIn (findingsOf (draft (now (document .entry)) (now (elements .entry)) (now (roles .entry)) kind) (tablesAt (now (tables .entry)) places)) (now (list .entry))) ⌝ }
 {
     let header = header::header_of(document, elements, roles, kind);
@@ -54,6 +60,9 @@ fn judge_draft(
         header,
         tables,
         places,
+        codes,
+        names,
+        keys,
         marks,
     );
     if list.len() / findings::WIDTH < total {
@@ -62,6 +71,114 @@ fn judge_draft(
     let count = elements.len() / 4;
     marks::write(document, elements, roles, kind, &marks[0..count], list);
     Answer::Findings(total)
+}
+
+// The same, with the rows of the tables indexed before.
+fn judge_served(
+    document: &[u8],
+    elements: &[u32],
+    roles: &[u8],
+    kind: DocumentType,
+    tables: &[u8],
+    places: Places,
+    codes: &mut [u32],
+    names: &mut [u32],
+    keys: &mut [u32],
+    marks: &mut [u64],
+    list: &mut [u32],
+) -> Answer
+    requires { ⌜ (length (now elements) / 4 ≤ length (now marks)) × (length (now marks) ≤ 16384) × (isLarge (length (now elements) / 4) (length (now tables)) places ≡ true) × (147454 ≤ length (now codes)) × (147454 ≤ length (now names)) × (147454 ≤ length (now keys)) ⌝ }
+    ensures { λ r. ⌜ (r ≡ answerIn (findingsOf (draft (now (document .entry)) (now (elements .entry)) (now (roles .entry)) kind) (tablesAt (now (tables .entry)) places)) (now (list .entry))) × (now (list .exit) ≡ listIn (findingsOf (draft (now (document .entry)) (now (elements .entry)) (now (roles .entry)) kind) (tablesAt (now (tables .entry)) places)) (now (list .entry))) ⌝ }
+{
+    let served = serving::serve(
+        document,
+        elements,
+        roles,
+        kind,
+        tables,
+        places,
+        codes,
+        names,
+        keys,
+    );
+    judge_draft(
+        document,
+        elements,
+        roles,
+        kind,
+        tables,
+        served,
+        codes,
+        names,
+        keys,
+        marks,
+        list,
+    )
+}
+
+// The same in runs of its own.
+fn judge_indexed(
+    document: &[u8],
+    elements: &[u32],
+    roles: &[u8],
+    kind: DocumentType,
+    tables: &[u8],
+    places: Places,
+    marks: &mut [u64],
+    list: &mut [u32],
+) -> Answer
+    requires { ⌜ (length (now elements) / 4 ≤ length (now marks)) × (length (now marks) ≤ 16384) × (isLarge (length (now elements) / 4) (length (now tables)) places ≡ true) ⌝ }
+    ensures { λ r. ⌜ (r ≡ answerIn (findingsOf (draft (now (document .entry)) (now (elements .entry)) (now (roles .entry)) kind) (tablesAt (now (tables .entry)) places)) (now (list .entry))) × (now (list .exit) ≡ listIn (findingsOf (draft (now (document .entry)) (now (elements .entry)) (now (roles .entry)) kind) (tablesAt (now (tables .entry)) places)) (now (list .entry))) ⌝ }
+{
+    let mut codes = [0u32; 147454];
+    let mut names = [0u32; 147454];
+    let mut keys = [0u32; 147454];
+    judge_served(
+        document,
+        elements,
+        roles,
+        kind,
+        tables,
+        places,
+        &mut codes,
+        &mut names,
+        &mut keys,
+        marks,
+        list,
+    )
+}
+
+// The same, where an index is worth it with one.
+fn judge_by_size(
+    document: &[u8],
+    elements: &[u32],
+    roles: &[u8],
+    kind: DocumentType,
+    tables: &[u8],
+    places: Places,
+    marks: &mut [u64],
+    list: &mut [u32],
+) -> Answer
+    requires { ⌜ (length (now elements) / 4 ≤ length (now marks)) × (length (now marks) ≤ 16384) ⌝ }
+    ensures { λ r. ⌜ (r ≡ answerIn (findingsOf (draft (now (document .entry)) (now (elements .entry)) (now (roles .entry)) kind) (tablesAt (now (tables .entry)) places)) (now (list .entry))) × (now (list .exit) ≡ listIn (findingsOf (draft (now (document .entry)) (now (elements .entry)) (now (roles .entry)) kind) (tablesAt (now (tables .entry)) places)) (now (list .entry))) ⌝ }
+{
+    if serving::is_large(elements.len() / 4, tables.len(), places) {
+        return judge_indexed(document, elements, roles, kind, tables, places, marks, list);
+    }
+    let none = &elements[0..0];
+    judge_draft(
+        document,
+        elements,
+        roles,
+        kind,
+        tables,
+        places,
+        none,
+        none,
+        none,
+        marks,
+        list,
+    )
 }
 
 // The same of a document of this type, whose role numbers are stored first.
@@ -80,7 +197,7 @@ fn judge_typed(
     let mut marks = [0u64; 16384];
     roles::fill(document, elements, kind, roles);
     let count = elements.len() / 4;
-    judge_draft(
+    judge_by_size(
         document,
         elements,
         &roles[0..count],
@@ -177,6 +294,9 @@ pub fn check(
                 nnames: nr,
                 history: h,
                 nhistory: nh,
+                set: 0,
+                first: 0,
+                several: false,
             };
             check_under(document, tables, places, scratch, elements, list)
         }

@@ -6,6 +6,7 @@ ghost use lib.Seq.{sets};
 ghost use Rattle.drafts.specs.Drafts.{draft};
 ghost use Rattle.registrations.specs.Registrations.{hasEstablishment};
 ghost use Rattle.answers.specs.Answers.{tablesAt};
+ghost use Rattle.answers.specs.Served.{Served};
 ghost use Rattle.marks.specs.Listed.{broken, listed};
 ghost use Rattle.marks.specs.Marks.{markOnto, markOf, marksOf};
 use crate::writing::how_many;
@@ -24,12 +25,15 @@ fn mark_registrations(
     header: Header,
     tables: &[u8],
     places: Places,
+    codes: &[u32],
+    names: &[u32],
+    keys: &[u32],
     entity: usize,
     held: bool,
     n: usize,
     m: u64,
 ) -> u64
-    requires { ⌜ held ≡ hasEstablishment (draft (now document) (now elements) (now roles) kind) entity ⌝ }
+    requires { ⌜ (held ≡ hasEstablishment (draft (now document) (now elements) (now roles) kind) entity) × Served (draft (now document) (now elements) (now roles) kind) (now tables) places (now codes) (now names) (now keys) ⌝ }
     ensures { λ r. ⌜ r ≡ markOnto (broken (draft (now (document .entry)) (now (elements .entry)) (now (roles .entry)) kind) header (tablesAt (now (tables .entry)) places)) n 31 8 m ⌝ }
 {
     let broken38 = registrations::breaks_38(document, elements, roles, kind, entity, held, n);
@@ -41,7 +45,18 @@ fn mark_registrations(
     let broken35 = registrations::breaks_35(document, elements, roles, kind, n);
     let mark35 = push(mark36, broken35);
     let demand34 = registrations::demand_34(document, elements, roles, kind, n);
-    let broken34 = is_broken(document, elements, roles, kind, tables, places, demand34);
+    let broken34 = is_broken(
+        document,
+        elements,
+        roles,
+        kind,
+        tables,
+        places,
+        codes,
+        names,
+        keys,
+        demand34,
+    );
     let mark34 = push(mark35, broken34);
     let broken33 = registrations::breaks_33(document, elements, roles, kind, n);
     let mark33 = push(mark34, broken33);
@@ -92,23 +107,60 @@ fn mark_organisations(
     header: Header,
     tables: &[u8],
     places: Places,
+    codes: &[u32],
+    names: &[u32],
+    keys: &[u32],
     n: usize,
     m: u64,
 ) -> u64
+    requires { ⌜ Served (draft (now document) (now elements) (now roles) kind) (now tables) places (now codes) (now names) (now keys) ⌝ }
     ensures { λ r. ⌜ r ≡ markOnto (broken (draft (now (document .entry)) (now (elements .entry)) (now (roles .entry)) kind) header (tablesAt (now (tables .entry)) places)) n 14 9 m ⌝ }
 {
     let demand22 = organisations::demand_22(document, elements, roles, kind, header, n);
-    let broken22 = is_broken(document, elements, roles, kind, tables, places, demand22);
+    let broken22 = is_broken(
+        document,
+        elements,
+        roles,
+        kind,
+        tables,
+        places,
+        codes,
+        names,
+        keys,
+        demand22,
+    );
     let mark22 = push(m, broken22);
     let demand21 = organisations::demand_21(document, elements, roles, kind, header, n);
-    let broken21 = is_broken(document, elements, roles, kind, tables, places, demand21);
+    let broken21 = is_broken(
+        document,
+        elements,
+        roles,
+        kind,
+        tables,
+        places,
+        codes,
+        names,
+        keys,
+        demand21,
+    );
     let mark21 = push(mark22, broken21);
     let broken20 = organisations::breaks_20(document, elements, roles, kind, n);
     let mark20 = push(mark21, broken20);
     let broken19 = organisations::breaks_19(document, elements, roles, kind, n);
     let mark19 = push(mark20, broken19);
     let demand18 = organisations::demand_18(document, elements, roles, kind, n);
-    let broken18 = is_broken(document, elements, roles, kind, tables, places, demand18);
+    let broken18 = is_broken(
+        document,
+        elements,
+        roles,
+        kind,
+        tables,
+        places,
+        codes,
+        names,
+        keys,
+        demand18,
+    );
     let mark18 = push(mark19, broken18);
     let broken17 = organisations::breaks_17(document, elements, roles, kind, n);
     let mark17 = push(mark18, broken17);
@@ -129,15 +181,30 @@ fn mark_root(
     header: Header,
     tables: &[u8],
     places: Places,
+    codes: &[u32],
+    names: &[u32],
+    keys: &[u32],
     n: usize,
     m: u64,
 ) -> u64
+    requires { ⌜ Served (draft (now document) (now elements) (now roles) kind) (now tables) places (now codes) (now names) (now keys) ⌝ }
     ensures { λ r. ⌜ r ≡ markOnto (broken (draft (now (document .entry)) (now (elements .entry)) (now (roles .entry)) kind) header (tablesAt (now (tables .entry)) places)) n 5 9 m ⌝ }
 {
     let broken13 = header::breaks_13(document, elements, roles, kind, header, n);
     let mark13 = push(m, broken13);
     let demand12 = header::demand_12(document, elements, roles, kind, header, n);
-    let broken12 = is_broken(document, elements, roles, kind, tables, places, demand12);
+    let broken12 = is_broken(
+        document,
+        elements,
+        roles,
+        kind,
+        tables,
+        places,
+        codes,
+        names,
+        keys,
+        demand12,
+    );
     let mark12 = push(mark13, broken12);
     let broken11 = header::breaks_11(document, elements, roles, kind, header, n);
     let mark11 = push(mark12, broken11);
@@ -146,12 +213,34 @@ fn mark_root(
     let broken9 = header::breaks_9(document, elements, roles, kind, header, n);
     let mark9 = push(mark10, broken9);
     let demand8 = header::demand_8(document, elements, roles, kind, header, n);
-    let broken8 = is_broken(document, elements, roles, kind, tables, places, demand8);
+    let broken8 = is_broken(
+        document,
+        elements,
+        roles,
+        kind,
+        tables,
+        places,
+        codes,
+        names,
+        keys,
+        demand8,
+    );
     let mark8 = push(mark9, broken8);
     let broken7 = header::breaks_7(document, elements, roles, kind, header, n);
     let mark7 = push(mark8, broken7);
     let demand6 = header::demand_6(document, elements, roles, kind, header, n);
-    let broken6 = is_broken(document, elements, roles, kind, tables, places, demand6);
+    let broken6 = is_broken(
+        document,
+        elements,
+        roles,
+        kind,
+        tables,
+        places,
+        codes,
+        names,
+        keys,
+        demand6,
+    );
     let mark6 = push(mark7, broken6);
     let broken5 = header::breaks_5(document, elements, roles, kind, header, n);
     push(mark6, broken5)
@@ -190,11 +279,14 @@ pub fn mark(
     header: Header,
     tables: &[u8],
     places: Places,
+    codes: &[u32],
+    names: &[u32],
+    keys: &[u32],
     entity: usize,
     held: bool,
     n: usize,
 ) -> u64
-    requires { ⌜ held ≡ hasEstablishment (draft (now document) (now elements) (now roles) kind) entity ⌝ }
+    requires { ⌜ (held ≡ hasEstablishment (draft (now document) (now elements) (now roles) kind) entity) × Served (draft (now document) (now elements) (now roles) kind) (now tables) places (now codes) (now names) (now keys) ⌝ }
     ensures { λ r. ⌜ r ≡ markOf (broken (draft (now (document .entry)) (now (elements .entry)) (now (roles .entry)) kind) header (tablesAt (now (tables .entry)) places)) n ⌝ }
 {
     let registrations = mark_registrations(
@@ -205,6 +297,9 @@ pub fn mark(
         header,
         tables,
         places,
+        codes,
+        names,
+        keys,
         entity,
         held,
         n,
@@ -229,6 +324,9 @@ pub fn mark(
         header,
         tables,
         places,
+        codes,
+        names,
+        keys,
         n,
         contacts,
     );
@@ -240,6 +338,9 @@ pub fn mark(
         header,
         tables,
         places,
+        codes,
+        names,
+        keys,
         n,
         organisations,
     );
@@ -265,9 +366,12 @@ pub fn fill(
     header: Header,
     tables: &[u8],
     places: Places,
+    codes: &[u32],
+    names: &[u32],
+    keys: &[u32],
     marks: &mut [u64],
 ) -> usize
-    requires { ⌜ (length (now elements) / 4 ≤ length (now marks)) × (length (now marks) ≤ 16384) ⌝ }
+    requires { ⌜ (length (now elements) / 4 ≤ length (now marks)) × (length (now marks) ≤ 16384) × Served (draft (now document) (now elements) (now roles) kind) (now tables) places (now codes) (now names) (now keys) ⌝ }
     ensures { λ r. ⌜ (r ≡ length (listed (draft (now (document .entry)) (now (elements .entry)) (now (roles .entry)) kind) (broken (draft (now (document .entry)) (now (elements .entry)) (now (roles .entry)) kind) header (tablesAt (now (tables .entry)) places)))) × (now (marks .exit) ≡ sets (now (marks .entry)) 0 (marksOf (broken (draft (now (document .entry)) (now (elements .entry)) (now (roles .entry)) kind) header (tablesAt (now (tables .entry)) places)) 0 (length (now (elements .entry)) / 4))) ⌝ }
 {
     let mut n = 0;
@@ -286,6 +390,9 @@ pub fn fill(
             header,
             tables,
             places,
+            codes,
+            names,
+            keys,
             entity,
             held,
             n,

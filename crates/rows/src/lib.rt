@@ -17,7 +17,7 @@ pub enum Question {
 }
 
 // Whether the field of number k of a line is this value.
-fn field_is(line: &[u8], k: usize, value: &[u8]) -> bool
+pub fn field_is(line: &[u8], k: usize, value: &[u8]) -> bool
     ensures { λ r. ⌜ r ≡ equal (field (fieldsOf (now (line .entry))) k) (now (value .entry)) ⌝ }
 {
     facts::same(lines::field(line, k), value)
@@ -92,7 +92,7 @@ fn is_other_key(line: &[u8], kind: &[u8], set: &[u8], key: &[u8]) -> bool
 }
 
 // Whether a line is the row that is asked for.
-fn is_asked(q: Question, line: &[u8], a: &[u8], b: &[u8], c: &[u8]) -> bool
+pub fn is_asked(q: Question, line: &[u8], a: &[u8], b: &[u8], c: &[u8]) -> bool
     ensures { λ r. ⌜ r ≡ isAsked q (now (a .entry)) (now (b .entry)) (now (c .entry)) (fieldsOf (now (line .entry))) ⌝ }
 {
     match q {

@@ -1,6 +1,8 @@
 -- `answers::has_code` meets its contract.
 -- Assumes nothing.
 use Rattle.answers.proofs.Asked.{code-asked}
+use Rattle.index.proofs.Asking.{any-code}
+use Rattle.rows.specs.Rows.{isAsked}
 use borrow.Author.Needs.{needs}
 use Rattle.answers.proofs.has_code.Statement.{statement}
 use Rattle.answers.proofs.has_code.Tie as tie
@@ -35,10 +37,11 @@ slice-aggregate-attribute-6 c = search needs
 attribute-requires-3 : tie.Need-attribute-requires-3
 attribute-requires-3 c κs = search needs
 
-has-code-requires : tie.Need-has-code-requires
-has-code-requires c κs = search needs
+some-row-requires : tie.Need-some-row-requires
+some-row-requires c κs = search any-code
 
 returns : tie.Need-returns
+unfolding isAsked
 returns c = search code-asked
 
 pub has-code-spec : {M : Type 1} → statement M
@@ -55,5 +58,5 @@ has-code-spec =
     slice-aggregate-attribute-5
     slice-aggregate-attribute-6
     attribute-requires-3
-    has-code-requires
+    some-row-requires
     returns)

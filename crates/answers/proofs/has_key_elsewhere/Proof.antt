@@ -1,6 +1,6 @@
 -- `answers::has_key_elsewhere` meets its contract.
 -- Assumes nothing.
-use Rattle.answers.proofs.Asked.{key-of-none, key-of-registration, key-of-request}
+use Rattle.answers.proofs.Asked.{key-of-none, key-of-registration, key-of-request, none-served, registration-served, request-served}
 use borrow.Author.Needs.{needs}
 use Rattle.answers.proofs.has_key_elsewhere.Statement.{statement}
 use Rattle.answers.proofs.has_key_elsewhere.Tie as tie
@@ -12,7 +12,7 @@ slice-aggregate-has-key-of : tie.Need-slice-aggregate-has-key-of
 slice-aggregate-has-key-of c = search needs
 
 has-key-of-requires : tie.Need-has-key-of-requires
-has-key-of-requires c κs = search needs
+has-key-of-requires c κs = search none-served
 
 enum-told-2 : tie.Need-enum-told-2
 enum-told-2 c = search needs
@@ -21,7 +21,7 @@ slice-aggregate-has-key-of-2 : tie.Need-slice-aggregate-has-key-of-2
 slice-aggregate-has-key-of-2 c = search needs
 
 has-key-of-requires-2 : tie.Need-has-key-of-requires-2
-has-key-of-requires-2 c κs = search needs
+has-key-of-requires-2 c κs = search registration-served
 
 enum-told-3 : tie.Need-enum-told-3
 enum-told-3 c = search needs
@@ -30,7 +30,7 @@ slice-aggregate-has-key-of-3 : tie.Need-slice-aggregate-has-key-of-3
 slice-aggregate-has-key-of-3 c = search needs
 
 has-key-of-requires-3 : tie.Need-has-key-of-requires-3
-has-key-of-requires-3 c κs = search needs
+has-key-of-requires-3 c κs = search request-served
 
 returns : tie.Need-returns
 returns c = search key-of-none

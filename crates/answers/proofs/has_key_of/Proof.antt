@@ -1,6 +1,7 @@
 -- `answers::has_key_of` meets its contract.
 -- Assumes nothing.
-use Rattle.answers.proofs.Asked.{key-asked}
+use Rattle.answers.proofs.Asked.{key-asked, keys-here}
+use Rattle.rows.specs.Rows.{isAsked}
 use borrow.Author.Needs.{needs}
 use Rattle.answers.proofs.has_key_of.Statement.{statement}
 use Rattle.answers.proofs.has_key_of.Tie as tie
@@ -29,11 +30,18 @@ slice-aggregate-attribute-4 c = search needs
 attribute-requires-2 : tie.Need-attribute-requires-2
 attribute-requires-2 c κs = search needs
 
+some-row-requires : tie.Need-some-row-requires
+some-row-requires c κs = search keys-here
+
+returns : tie.Need-returns
+unfolding isAsked
+returns c = search key-asked
+
 has-key-elsewhere-requires : tie.Need-has-key-elsewhere-requires
 has-key-elsewhere-requires c κs = search needs
 
-returns : tie.Need-returns
-returns c = search key-asked
+returns-2 : tie.Need-returns-2
+returns-2 c = search key-asked
 
 pub has-key-of-spec : {M : Type 1} → statement M
 has-key-of-spec =
@@ -47,5 +55,7 @@ has-key-of-spec =
     slice-aggregate-attribute-3
     slice-aggregate-attribute-4
     attribute-requires-2
+    some-row-requires
+    returns
     has-key-elsewhere-requires
-    returns)
+    returns-2)

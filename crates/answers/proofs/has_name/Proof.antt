@@ -1,6 +1,8 @@
 -- `answers::has_name` meets its contract.
 -- Assumes nothing.
 use Rattle.answers.proofs.Asked.{name-asked}
+use Rattle.index.proofs.Asking.{any-name}
+use Rattle.rows.specs.Rows.{isAsked}
 use borrow.Author.Needs.{needs}
 use Rattle.answers.proofs.has_name.Statement.{statement}
 use Rattle.answers.proofs.has_name.Tie as tie
@@ -26,10 +28,11 @@ slice-aggregate-text c = search needs
 text-requires : tie.Need-text-requires
 text-requires c κs = search needs
 
-has-name-requires : tie.Need-has-name-requires
-has-name-requires c κs = search needs
+some-row-requires : tie.Need-some-row-requires
+some-row-requires c κs = search any-name
 
 returns : tie.Need-returns
+unfolding isAsked
 returns c = search name-asked
 
 pub has-name-spec : {M : Type 1} → statement M
@@ -43,5 +46,5 @@ has-name-spec =
     attribute-requires
     slice-aggregate-text
     text-requires
-    has-name-requires
+    some-row-requires
     returns)

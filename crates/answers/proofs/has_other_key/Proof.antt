@@ -1,6 +1,6 @@
 -- `answers::has_other_key` meets its contract.
 -- Assumes nothing.
-use Rattle.answers.proofs.Asked.{other-asked}
+use Rattle.answers.proofs.Asked.{other-asked, told-here}
 use borrow.Author.Needs.{needs}
 use Rattle.answers.proofs.has_other_key.Statement.{statement}
 use Rattle.answers.proofs.has_other_key.Tie as tie
@@ -33,10 +33,19 @@ slice-aggregate-has-other-key : tie.Need-slice-aggregate-has-other-key
 slice-aggregate-has-other-key c = search needs
 
 has-other-key-requires : tie.Need-has-other-key-requires
-has-other-key-requires c κs = search needs
+has-other-key-requires c κs = search told-here
 
 returns : tie.Need-returns
 returns c = search other-asked
+
+slice-aggregate-has-other-key-2 : tie.Need-slice-aggregate-has-other-key-2
+slice-aggregate-has-other-key-2 c = search needs
+
+has-other-key-requires-2 : tie.Need-has-other-key-requires-2
+has-other-key-requires-2 c κs = search needs
+
+returns-2 : tie.Need-returns-2
+returns-2 c = search other-asked
 
 pub has-other-key-spec : {M : Type 1} → statement M
 has-other-key-spec =
@@ -52,4 +61,7 @@ has-other-key-spec =
     attribute-requires-2
     slice-aggregate-has-other-key
     has-other-key-requires
-    returns)
+    returns
+    slice-aggregate-has-other-key-2
+    has-other-key-requires-2
+    returns-2)

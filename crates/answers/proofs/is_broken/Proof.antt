@@ -1,6 +1,6 @@
 -- `answers::is_broken` meets its contract.
 -- Assumes nothing.
-use Rattle.answers.proofs.Asked.{asks-nothing, asks-broken, wants-code, wants-name, forbids-document, forbids-version, forbids-elsewhere, forbids-other}
+use Rattle.answers.proofs.Asked.{asks-nothing, asks-broken, wants-code, wants-name, forbids-document, forbids-version, forbids-elsewhere, forbids-other, elsewhere-served}
 use borrow.Author.Needs.{needs}
 use Rattle.answers.proofs.is_broken.Statement.{statement}
 use Rattle.answers.proofs.is_broken.Tie as tie
@@ -39,7 +39,7 @@ enum-known-demand-5 : tie.Need-enum-known-demand-5
 enum-known-demand-5 c = search needs
 
 has-key-elsewhere-requires : tie.Need-has-key-elsewhere-requires
-has-key-elsewhere-requires c κs = search needs
+has-key-elsewhere-requires c κs = search elsewhere-served
 
 enum-known-demand-6 : tie.Need-enum-known-demand-6
 enum-known-demand-6 c = search needs

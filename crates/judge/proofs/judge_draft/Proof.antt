@@ -28,7 +28,7 @@ part-write-end : tie.Need-part-write-end
 part-write-end c = search needs
 
 write-requires : tie.Need-write-requires
-write-requires c κs = let a = c .before .before .before .before .before .before .before .before .before .before .before .before .before .before .before .args in draft-fits (a .document .now) (a .elements .now) (a .roles .now) (a .kind) _ (c .before .before .before .before .before .before .before .before .header-of .ensures) (tablesAt (a .tables .now) (a .places)) _ _ (c .before .before .before .before .before .before .before .before .before .before .before .before .before .before .before .pre .0) (c .before .before .before .before .before .before .fill .ensures .1) (a .list .now) _ (c .before .before .before .before .before .before .fill .ensures .0) (c .before .before .before .if1 .left)
+write-requires c κs = let a = c .before .before .before .before .before .before .before .before .before .before .before .before .before .before .before .before .before .before .args in draft-fits (a .document .now) (a .elements .now) (a .roles .now) (a .kind) _ (c .before .before .before .before .before .before .before .before .header-of .ensures) (tablesAt (a .tables .now) (a .places)) _ _ (c .before .before .before .before .before .before .before .before .before .before .before .before .before .before .before .before .before .before .pre .0) (c .before .before .before .before .before .before .fill .ensures .1) (a .list .now) _ (c .before .before .before .before .before .before .fill .ensures .0) (c .before .before .before .if1 .left)
 
 same-length-2 : tie.Need-same-length-2
 same-length-2 c = search needs
@@ -37,7 +37,7 @@ same-length-3 : tie.Need-same-length-3
 same-length-3 c = search needs
 
 returns-2 : tie.Need-returns-2
-returns-2 c = (search all-answer, search draft-list)
+returns-2 c = (search all-answer, let a = c .before .before .before .before .before .before .before .before .before .before .before .before .before .before .before .before .before .before .before .before .before .args in draft-list (a .document .now) (a .elements .now) (a .roles .now) (a .kind) _ (c .before .before .before .before .before .before .before .before .before .before .before .header-of .ensures) (tablesAt (a .tables .now) (a .places)) _ _ (c .before .before .before .before .before .before .before .before .before .before .before .before .before .before .before .before .before .before .before .before .before .pre .0) (c .before .before .before .before .before .before .before .before .before .fill .ensures .1) (a .list .now) _ (c .before .before .before .before .before .before .before .before .before .fill .ensures .0) (c .before .before .before .before .before .before .if1 .left) _ (c .before .before .write .ensures))
 
 pub judge-draft-spec : {M : Type 1} → statement M
 judge-draft-spec =

@@ -8,20 +8,20 @@ use Rattle.judge.proofs.judge_typed.Tie as tie
 fill-requires : tie.Need-fill-requires
 fill-requires c κs = search needs
 
-sub-judge-draft : tie.Need-sub-judge-draft
-sub-judge-draft c = search needs
+sub-judge-by-size : tie.Need-sub-judge-by-size
+sub-judge-by-size c = search needs
 
-part-judge-draft-start : tie.Need-part-judge-draft-start
-part-judge-draft-start c = search needs
+part-judge-by-size-start : tie.Need-part-judge-by-size-start
+part-judge-by-size-start c = search needs
 
-part-judge-draft-end : tie.Need-part-judge-draft-end
-part-judge-draft-end c = search needs
+part-judge-by-size-end : tie.Need-part-judge-by-size-end
+part-judge-by-size-end c = search needs
 
-slice-aggregate-judge-draft : tie.Need-slice-aggregate-judge-draft
-slice-aggregate-judge-draft c = search needs
+slice-aggregate-judge-by-size : tie.Need-slice-aggregate-judge-by-size
+slice-aggregate-judge-by-size c = search needs
 
-judge-draft-requires : tie.Need-judge-draft-requires
-judge-draft-requires c κs = search needs
+judge-by-size-requires : tie.Need-judge-by-size-requires
+judge-by-size-requires c κs = search needs
 
 same-length : tie.Need-same-length
 same-length c = search needs
@@ -37,11 +37,11 @@ judge-typed-spec =
     tie.close
     (tie.spec
     fill-requires
-    sub-judge-draft
-    part-judge-draft-start
-    part-judge-draft-end
-    slice-aggregate-judge-draft
-    judge-draft-requires
+    sub-judge-by-size
+    part-judge-by-size-start
+    part-judge-by-size-end
+    slice-aggregate-judge-by-size
+    judge-by-size-requires
     same-length
     same-length-2
     returns)

@@ -13,12 +13,12 @@ use Rattle.marks.proofs.groups.fill.Statement.{statement}
 use Rattle.marks.proofs.groups.fill.Tie as tie
 
 abbrev Inv-loop : tie.InvT-loop
-Inv-loop document elements roles kind header tables places marks₀ n₀ total₀ entity₀ held₀ marks n total entity held =
+Inv-loop document elements roles kind header tables places codes names keys marks₀ n₀ total₀ entity₀ held₀ marks n total entity held =
     ToFill document elements roles kind (broken (draft document elements roles kind) header (tablesAt tables places)) marks₀ marks n total
     × (held ≡ hasEstablishment (draft document elements roles kind) entity)
 
 abbrev μ-loop : tie.MeasureT-loop
-μ-loop document elements roles kind header tables places marks₀ n₀ total₀ entity₀ held₀ marks n total entity held =
+μ-loop document elements roles kind header tables places codes names keys marks₀ n₀ total₀ entity₀ held₀ marks n total entity held =
     length elements / 4 - n
 
 has-establishment-requires : tie.Need-has-establishment-requires Inv-loop μ-loop

@@ -39,7 +39,7 @@ demand-18-requires : tie.Need-demand-18-requires
 demand-18-requires c κs = search needs
 
 is-broken-requires-3 : tie.Need-is-broken-requires-3
-is-broken-requires-3 c κs = search needs
+is-broken-requires-3 c κs = c .before .before .before .before .before .before .before .before .before .before .before .before .before .before .before .before .before .before .pre
 
 push-requires-5 : tie.Need-push-requires-5
 push-requires-5 c κs = search needs

@@ -33,7 +33,7 @@ demand-34-requires : tie.Need-demand-34-requires
 demand-34-requires c κs = search needs
 
 is-broken-requires : tie.Need-is-broken-requires
-is-broken-requires c κs = search needs
+is-broken-requires c κs = c .before .before .before .before .before .before .before .before .before .before .before .before .before .before .before .before .pre .1
 
 push-requires-5 : tie.Need-push-requires-5
 push-requires-5 c κs = search needs

@@ -42,7 +42,7 @@ demand-8-requires : tie.Need-demand-8-requires
 demand-8-requires c κs = search needs
 
 is-broken-requires-2 : tie.Need-is-broken-requires-2
-is-broken-requires-2 c κs = search needs
+is-broken-requires-2 c κs = c .before .before .before .before .before .before .before .before .before .before .before .before .before .before .before .before .before .before .before .pre
 
 push-requires-6 : tie.Need-push-requires-6
 push-requires-6 c κs = search needs
@@ -57,7 +57,7 @@ demand-6-requires : tie.Need-demand-6-requires
 demand-6-requires c κs = search needs
 
 is-broken-requires-3 : tie.Need-is-broken-requires-3
-is-broken-requires-3 c κs = search needs
+is-broken-requires-3 c κs = c .before .before .before .before .before .before .before .before .before .before .before .before .before .before .before .before .before .before .before .before .before .before .before .before .pre
 
 push-requires-8 : tie.Need-push-requires-8
 push-requires-8 c κs = search needs

@@ -1,0 +1,6 @@
+pub mod Hashes
+pub mod Chains
+pub mod Indexed
+pub mod SetKeys
+pub mod Unique
+pub mod Examples

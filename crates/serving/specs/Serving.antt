@@ -1,0 +1,39 @@
+-- When the rows are indexed, and what is told of the history's keys.
+-- Assumes nothing.
+use Prim.Native.Nat.{ℕ, _+_, _*_, _≤_}
+use mathlib.Core.Bool.{Bool}
+use mathlib.Core.List.{List}
+use lib.Dec.{leb, ltb}
+use lib.ListN.{length}
+use Rattle.scan.specs.Choice.{_and_}
+use Rattle.scan.specs.Bytes.{text}
+use Rattle.index.specs.declared.Keys.{Keys}
+use Rattle.index.specs.SetKeys.{keysOf}
+use Rattle.drafts.specs.Drafts.{Draft, attribute}
+use Rattle.header.specs.Header.{requestCode}
+use Rattle.answers.specs.declared.Places.{Places}
+
+-- the walks along the rows would take longer than an index, and the tables are of a size that is accepted
+unfoldable pub isLarge : ℕ → ℕ → Places → Bool
+isLarge count n p =
+    leb count 16384 and leb n 1048576 and leb (p .ncodes) 65535 and leb (p .nnames) 65535 and leb (p .nhistory) 65535
+    and ltb 4194304 (count * n)
+
+-- a run has room for so many rows of the tables
+abbrev pub Fitting : List ℕ → ℕ → List ℕ → Type 0
+Fitting s count x = (16384 + 2 * count ≤ length x) × (count ≤ 65535) × (length s ≤ 1048576)
+
+-- the places, with the keys of the set id of element `set`
+unfoldable pub toldAt : Draft → List ℕ → Places → ℕ → Places
+toldAt d s p set =
+    record {
+      codes = p .codes;
+      ncodes = p .ncodes;
+      names = p .names;
+      nnames = p .nnames;
+      history = p .history;
+      nhistory = p .nhistory;
+      set = set;
+      first = keysOf requestCode (attribute d set (text "root")) s (p .history) (p .nhistory) .first;
+      several = keysOf requestCode (attribute d set (text "root")) s (p .history) (p .nhistory) .several;
+    }
