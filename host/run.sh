@@ -1,59 +1,83 @@
 #!/bin/sh
 # Holds the product against the outside: the vectors, an independent reference on made-up cases, expat and libxml2.
 #
-#   host/run.sh ARCHIVE VECTORS [CASES [SECONDS]]
+#   host/run.sh [CASES [SECONDS [ARCHIVE [VECTORS]]]]
 #
-# ARCHIVE  the product's archive (libexports.a), or the word `standin`: then the reference takes its place, which tries
-#          the harness alone
-# VECTORS  the folder of the vectors
 # CASES    made-up cases to compare (1000000), for at most SECONDS (1800)
+# ARCHIVE  the product's archive: made by `rt staticlib exports` if none is named. The word `standin` puts the reference in its
+#          place, which tries the harness alone
+# VECTORS  the folder of the vectors (crates/vectors/data)
 #
 # What is missing is installed from Debian's packages. Everything is built outside the repository, in
 # ${TMPDIR:-/tmp}/benchdowel-host; the files of differing cases are put into the folder `differ` there.
 set -eu
 
-if [ $# -lt 2 ]; then
-    sed -n '4,9s/^# \{0,1\}//p' "$0" >&2
-    exit 2
+fail() { echo "$*" >&2; exit 3; }
+has() { command -v "$1" >/dev/null; }
+folder() { CDPATH= cd -- "$1" && pwd; }
+
+sources=$(folder "$(dirname -- "$0")/src")
+project=$(folder "$sources/../..")
+cases=${1:-1000000}
+seconds=${2:-1800}
+archive=${3:-}
+if [ -z "$archive" ]; then
+    archive=$project/target/staticlib/libexports.a
+    echo "making $archive"
+    (cd "$project" && rt staticlib exports) >/dev/null || fail "rt staticlib exports did not make the archive"
 fi
-archive=$1
-vectors=$2
-cases=${3:-1000000}
-seconds=${4:-1800}
-sources=$(CDPATH= cd -- "$(dirname -- "$0")/src" && pwd)
+[ "$archive" = standin ] || [ -f "$archive" ] || fail "there is no archive $archive"
+vectors=$(folder "${4:-$project/crates/vectors/data}") || fail "there is no folder $4"
+[ -f "$vectors/expected.txt" ] || fail "there are no vectors in $vectors"
 build=${TMPDIR:-/tmp}/benchdowel-host
 mkdir -p "$build"
 
-# The tools and libraries, from Debian's packages if they are missing.
+# The archive is x86-64 code. Another machine builds x86-64 programs around it and runs them under an emulator: then a
+# rustc with that target is needed, perhaps Debian's beside another one, and expat and libxml2 are x86-64 code too.
+rustc=rustc
+target=
 missing=
-command -v rustc >/dev/null || missing="$missing rustc"
-command -v cc >/dev/null || missing="$missing gcc libc6-dev"
-[ -e /usr/include/expat.h ] || missing="$missing libexpat1-dev"
-[ -e /usr/include/libxml2/libxml/parser.h ] || missing="$missing libxml2-dev"
+need() { missing="$missing $*"; }
+if [ "$archive" = standin ] || [ "$(uname -m)" = x86_64 ]; then
+    has rustc || need rustc
+    has cc || need gcc libc6-dev
+    [ -e /usr/include/expat.h ] || need libexpat1-dev
+    [ -e /usr/include/libxml2/libxml/parser.h ] || need libxml2-dev
+else
+    target=x86_64-unknown-linux-gnu
+    libraries=/usr/lib/x86_64-linux-gnu
+    has_target() { [ -d "$("$rustc" --print target-libdir --target $target 2>/dev/null)" ]; }
+    has_target || rustc=/usr/bin/rustc
+    has_target || need rustc libstd-rust-dev:amd64
+    has x86_64-linux-gnu-gcc && [ -e /usr/x86_64-linux-gnu/lib/crt1.o ] || need gcc-x86-64-linux-gnu libc6-dev-amd64-cross
+    [ -e $libraries/libexpat.so.1 ] || need libexpat1:amd64
+    [ -e $libraries/libxml2.so.2 ] || need libxml2:amd64
+    has qemu-x86_64 || has qemu-x86_64-static || need qemu-user
+fi
 if [ -n "$missing" ]; then
     echo "installing:$missing"
-    # $missing is a list of words.
-    { apt-get update && apt-get install -y $missing; } >"$build/apt.log" 2>&1 || { echo "apt-get could not install them: see $build/apt.log" >&2; exit 3; }
+    {
+        { [ -z "$target" ] || dpkg --add-architecture amd64; } && apt-get update &&
+            # Debian 12 has its newer rustc under another name.
+            if apt-cache show rustc-web; then missing=$(echo "$missing" | sed 's/ rustc/&-web/; s/libstd-rust/&-web/'); fi &&
+            # $missing is a list of words.
+            DEBIAN_FRONTEND=noninteractive apt-get install -y --no-install-recommends $missing
+    } >"$build/apt.log" 2>&1 || fail "apt-get could not install them: see $build/apt.log"
 fi
-minor=$(rustc --version | sed 's/^rustc 1\.\([0-9]*\)\..*/\1/')
-if [ "$minor" -lt 82 ]; then
-    echo "rustc 1.82 or later is needed; this is $(rustc --version)" >&2
-    exit 3
-fi
+version=$($rustc --version)
+minor=$(echo "$version" | sed 's/^rustc 1\.\([0-9]*\)\..*/\1/')
+[ "$minor" -ge 82 ] || fail "rustc 1.82 or later is needed; this is $version"
 
-# The archive is x86-64 code. Another machine needs a cross compiler and an emulator for it.
 flags=
 emulator=
-if [ "$(uname -m)" != x86_64 ] && [ "$archive" != standin ]; then
-    target=x86_64-unknown-linux-gnu
-    emulator=$(command -v qemu-x86_64 || command -v qemu-x86_64-static || true)
-    if [ -z "$emulator" ] || ! command -v x86_64-linux-gnu-gcc >/dev/null || [ ! -d "$(rustc --print target-libdir --target $target)" ]; then
-        echo "the archive is x86-64 code and this machine is $(uname -m): needed are qemu-user, rustc's target $target," \
-            "x86_64-linux-gnu-gcc, and expat and libxml2 for amd64" >&2
-        exit 3
-    fi
-    flags="--target $target -C linker=x86_64-linux-gnu-gcc"
-    emulator="$emulator -L /usr/x86_64-linux-gnu"
+if [ -n "$target" ]; then
+    has_target || fail "$version cannot build for $target"
+    # The libraries are there to be run; the linker looks for them under names without a version.
+    mkdir -p "$build/x86-64"
+    ln -sf $libraries/libexpat.so.1 "$build/x86-64/libexpat.so"
+    ln -sf $libraries/libxml2.so.2 "$build/x86-64/libxml2.so"
+    flags="--target $target -C linker=x86_64-linux-gnu-gcc -L x86-64"
+    emulator=$(command -v qemu-x86_64 || command -v qemu-x86_64-static)
 fi
 
 standin=
@@ -61,12 +85,12 @@ if [ "$archive" = standin ]; then
     standin="--cfg standin"
     archive=
 else
-    archive=$(CDPATH= cd -- "$(dirname -- "$archive")" && pwd)/$(basename -- "$archive")
+    archive=$(folder "$(dirname -- "$archive")")/$(basename -- "$archive")
 fi
 
 # $flags, $standin and $emulator are lists of words. The archive stands last, behind the code that calls it.
 cd "$build"
-compile() { rustc -O --edition 2021 -C codegen-units=1 --check-cfg 'cfg(standin)' -L . $flags "$@"; }
+compile() { $rustc -O --edition 2021 -C codegen-units=1 --check-cfg 'cfg(standin)' -L . $flags "$@"; }
 for crate in reference drafts xmllibs; do
     compile --crate-type rlib --crate-name $crate "$sources/$crate.rs"
 done
@@ -85,10 +109,10 @@ run() {
     fi
     [ $status -eq 0 ] || failed=1
 }
-run vectors "$vectors"
+run vectors "$vectors" "$sources/../merges.txt"
 run compare 0 "$cases" differ "$seconds"
 run parsers 0 $((cases / 10)) differ
-run bench
+run bench ${emulator:+emulated}
 if [ $failed -ne 0 ]; then
     echo "host: the product and the outside differ"
     exit 1

@@ -1,7 +1,7 @@
 //! Holds the reference and the product against the vectors.
 //!
-//! `vectors FOLDER` reads `expected.txt`, `merges.txt` and the documents and tables of the folder, and says which
-//! answers of either differ from the printed ones.
+//! `vectors FOLDER MERGES` reads `expected.txt` and the documents and tables of the folder, and the file of merges, and says
+//! which answers of either differ from the printed ones.
 
 use std::fmt::Write;
 use std::path::Path;
@@ -12,13 +12,14 @@ const BYTES: usize = 65_536;
 const RECORDS: usize = 1_024;
 
 fn main() -> ExitCode {
-    let Some(folder) = std::env::args().nth(1) else {
-        eprintln!("usage: vectors FOLDER");
+    let (Some(folder), Some(merges)) = (std::env::args().nth(1), std::env::args().nth(2)) else {
+        eprintln!("usage: vectors FOLDER MERGES");
         return ExitCode::from(2);
     };
     let folder = Path::new(&folder);
     let read = |name: &str| std::fs::read(folder.join(name)).unwrap_or_else(|error| panic!("{name}: {error}"));
-    let read_text = |name: &str| String::from_utf8(read(name)).expect("a text file");
+    let expected = String::from_utf8(read("expected.txt")).expect("a text file");
+    let merges = std::fs::read_to_string(&merges).unwrap_or_else(|error| panic!("{merges}: {error}"));
 
     let sides = [
         Side { name: "reference", check: reference::check, merge: reference::merge },
@@ -27,7 +28,7 @@ fn main() -> ExitCode {
     let mut differ = 0;
     for side in &sides {
         let mut tally = Tally::default();
-        for block in read_text("expected.txt").split("== ").skip(1) {
+        for block in expected.split("== ").skip(1) {
             let (name, expected) = block.split_once('\n').expect("a name on a line of its own");
             let answer = side.printed_check(&read(&format!("{name}.xml")), &read(&format!("{name}.tables")));
             tally.compare(name, &answer, expected);
@@ -36,7 +37,6 @@ fn main() -> ExitCode {
         differ += tally.differ;
 
         tally = Tally::default();
-        let merges = read_text("merges.txt");
         for (number, block) in merges.split("\n\n").filter(|block| !block.trim().is_empty()).enumerate() {
             let mut lines = block.trim_start_matches('\n').splitn(4, '\n');
             let mut numbers = |key: &str| -> Vec<u32> {

@@ -30,7 +30,7 @@ impl Element {
         Element { name: name.to_string(), attributes, content: Content::Children(children) }
     }
 
-    fn text(name: &str, text: &str) -> Element {
+    pub fn text(name: &str, text: &str) -> Element {
         Element { name: name.to_string(), attributes: Vec::new(), content: Content::Text(text.to_string()) }
     }
 
