@@ -4,3 +4,4 @@ pub mod Digits
 pub mod Appended
 pub mod Grouped
 pub mod Filled
+pub mod Skipped

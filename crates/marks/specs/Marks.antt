@@ -18,6 +18,11 @@ digit false = 0
 unfoldable pub pushed : ℕ → Bool → ℕ
 pushed m b = pick (ltb m 4611686018427387904) (2 * m + digit b) 0
 
+-- so many digits more, all 0
+unfoldable pub skipped : ℕ → ℕ → ℕ
+skipped zero m = m
+skipped (suc k) m = skipped k (pushed m false)
+
 -- the digits of the procedures p, p + 1, .., k of them, below those of m
 unfoldable pub markOnto : (ℕ → ℕ → Bool) → ℕ → ℕ → ℕ → ℕ → ℕ
 markOnto b n p zero m = m

@@ -1,14 +1,15 @@
 // The mark of an element: each procedure asked once, and what it demands answered under the tables.
 ghost use mathlib.Core.Path.{_≡_};
 ghost use Prim.Native.Nat.{_/_, _≤_};
-ghost use lib.ListN.{length};
+ghost use lib.ListN.{length, getD};
+ghost use Rattle.scan.specs.Choice.{between};
 ghost use lib.Seq.{sets};
 ghost use Rattle.drafts.specs.Drafts.{draft};
 ghost use Rattle.registrations.specs.Registrations.{hasEstablishment};
 ghost use Rattle.answers.specs.Answers.{tablesAt};
 ghost use Rattle.answers.specs.Served.{Served};
 ghost use Rattle.marks.specs.Listed.{broken, listed};
-ghost use Rattle.marks.specs.Marks.{markOnto, markOf, marksOf};
+ghost use Rattle.marks.specs.Marks.{skipped, markOnto, markOf, marksOf};
 use crate::writing::how_many;
 use crate::writing::push;
 use answers::Places;
@@ -16,8 +17,35 @@ use answers::is_broken;
 use header::Header;
 use paths::DocumentType;
 
-// The digits of procedures 31 to 38, below those of m.
-fn mark_registrations(
+// Whether the number of element n's role is one from low to high.
+fn is_between(roles: &[u8], n: usize, low: u32, high: u32) -> bool
+    ensures { λ r. ⌜ r ≡ between low high (getD (now (roles .entry)) n 0) ⌝ }
+{
+    let role = scan::byte(roles, n);
+    if low <= role {
+        return role <= high;
+    }
+    false
+}
+
+// So many digits more, all 0.
+fn skip(m: u64, count: usize) -> u64
+    ensures { λ r. ⌜ r ≡ skipped count m ⌝ }
+{
+    if m == 0 {
+        return 0;
+    }
+    let mut r = m;
+    let mut left = count;
+    while 0 < left {
+        r = push(r, false);
+        left -= 1;
+    }
+    r
+}
+
+// The digits of procedures 31 to 38, below those of m, each asked.
+fn ask_registrations(
     document: &[u8],
     elements: &[u32],
     roles: &[u8],
@@ -66,8 +94,67 @@ fn mark_registrations(
     push(mark32, broken31)
 }
 
-// The digits of procedures 23 to 30, below those of m.
-fn mark_contacts(
+// The same; an element whose role none of them judges is not asked.
+fn mark_registrations(
+    document: &[u8],
+    elements: &[u32],
+    roles: &[u8],
+    kind: DocumentType,
+    header: Header,
+    tables: &[u8],
+    places: Places,
+    codes: &[u32],
+    names: &[u32],
+    keys: &[u32],
+    entity: usize,
+    held: bool,
+    n: usize,
+    m: u64,
+) -> u64
+    requires { ⌜ (held ≡ hasEstablishment (draft (now document) (now elements) (now roles) kind) entity) × Served (draft (now document) (now elements) (now roles) kind) (now tables) places (now codes) (now names) (now keys) ⌝ }
+    ensures { λ r. ⌜ r ≡ markOnto (broken (draft (now (document .entry)) (now (elements .entry)) (now (roles .entry)) kind) header (tablesAt (now (tables .entry)) places)) n 31 8 m ⌝ }
+{
+    if is_between(roles, n, 15, 20) {
+        return ask_registrations(
+            document,
+            elements,
+            roles,
+            kind,
+            header,
+            tables,
+            places,
+            codes,
+            names,
+            keys,
+            entity,
+            held,
+            n,
+            m,
+        );
+    }
+    if is_between(roles, n, 36, 36) {
+        return ask_registrations(
+            document,
+            elements,
+            roles,
+            kind,
+            header,
+            tables,
+            places,
+            codes,
+            names,
+            keys,
+            entity,
+            held,
+            n,
+            m,
+        );
+    }
+    skip(m, 8)
+}
+
+// The digits of procedures 23 to 30, below those of m, each asked.
+fn ask_contacts(
     document: &[u8],
     elements: &[u32],
     roles: &[u8],
@@ -98,8 +185,51 @@ fn mark_contacts(
     push(mark24, broken23)
 }
 
-// The digits of procedures 14 to 22, below those of m.
-fn mark_organisations(
+// The same; an element whose role none of them judges is not asked.
+fn mark_contacts(
+    document: &[u8],
+    elements: &[u32],
+    roles: &[u8],
+    kind: DocumentType,
+    header: Header,
+    tables: &[u8],
+    places: Places,
+    n: usize,
+    m: u64,
+) -> u64
+    ensures { λ r. ⌜ r ≡ markOnto (broken (draft (now (document .entry)) (now (elements .entry)) (now (roles .entry)) kind) header (tablesAt (now (tables .entry)) places)) n 23 8 m ⌝ }
+{
+    if is_between(roles, n, 15, 27) {
+        return ask_contacts(
+            document,
+            elements,
+            roles,
+            kind,
+            header,
+            tables,
+            places,
+            n,
+            m,
+        );
+    }
+    if is_between(roles, n, 33, 33) {
+        return ask_contacts(
+            document,
+            elements,
+            roles,
+            kind,
+            header,
+            tables,
+            places,
+            n,
+            m,
+        );
+    }
+    skip(m, 8)
+}
+
+// The digits of procedures 14 to 22, below those of m, each asked.
+fn ask_organisations(
     document: &[u8],
     elements: &[u32],
     roles: &[u8],
@@ -172,8 +302,45 @@ fn mark_organisations(
     push(mark15, broken14)
 }
 
-// The digits of procedures 5 to 13, below those of m.
-fn mark_root(
+// The same; an element whose role none of them judges is not asked.
+fn mark_organisations(
+    document: &[u8],
+    elements: &[u32],
+    roles: &[u8],
+    kind: DocumentType,
+    header: Header,
+    tables: &[u8],
+    places: Places,
+    codes: &[u32],
+    names: &[u32],
+    keys: &[u32],
+    n: usize,
+    m: u64,
+) -> u64
+    requires { ⌜ Served (draft (now document) (now elements) (now roles) kind) (now tables) places (now codes) (now names) (now keys) ⌝ }
+    ensures { λ r. ⌜ r ≡ markOnto (broken (draft (now (document .entry)) (now (elements .entry)) (now (roles .entry)) kind) header (tablesAt (now (tables .entry)) places)) n 14 9 m ⌝ }
+{
+    if is_between(roles, n, 14, 23) {
+        return ask_organisations(
+            document,
+            elements,
+            roles,
+            kind,
+            header,
+            tables,
+            places,
+            codes,
+            names,
+            keys,
+            n,
+            m,
+        );
+    }
+    skip(m, 9)
+}
+
+// The digits of procedures 5 to 13, below those of m, each asked.
+fn ask_root(
     document: &[u8],
     elements: &[u32],
     roles: &[u8],
@@ -244,6 +411,43 @@ fn mark_root(
     let mark6 = push(mark7, broken6);
     let broken5 = header::breaks_5(document, elements, roles, kind, header, n);
     push(mark6, broken5)
+}
+
+// The same; an element whose role none of them judges is not asked.
+fn mark_root(
+    document: &[u8],
+    elements: &[u32],
+    roles: &[u8],
+    kind: DocumentType,
+    header: Header,
+    tables: &[u8],
+    places: Places,
+    codes: &[u32],
+    names: &[u32],
+    keys: &[u32],
+    n: usize,
+    m: u64,
+) -> u64
+    requires { ⌜ Served (draft (now document) (now elements) (now roles) kind) (now tables) places (now codes) (now names) (now keys) ⌝ }
+    ensures { λ r. ⌜ r ≡ markOnto (broken (draft (now (document .entry)) (now (elements .entry)) (now (roles .entry)) kind) header (tablesAt (now (tables .entry)) places)) n 5 9 m ⌝ }
+{
+    if is_between(roles, n, 2, 9) {
+        return ask_root(
+            document,
+            elements,
+            roles,
+            kind,
+            header,
+            tables,
+            places,
+            codes,
+            names,
+            keys,
+            n,
+            m,
+        );
+    }
+    skip(m, 9)
 }
 
 // The digits of procedures 1 to 4, below those of m.
