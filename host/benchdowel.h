@@ -7,7 +7,7 @@
  *
  * - a pointer, never null, to as many items as the length behind it says, aligned for its type; of a length of 0 no item is read;
  * - memory that is lent to be written shares no byte with anything else that is passed in the same call;
- * - 2 MiB of stack;
+ * - 4 MiB of stack;
  * - for two calls at the same time, memory to be written for each.
  *
  * No pointer is kept.
