@@ -10,6 +10,7 @@ use Rattle.scan.specs.Bytes.{text}
 use Rattle.lines.specs.Lines.{Row, rowsAt}
 use Rattle.tables.specs.Accepted.{Tables}
 use Rattle.rows.specs.Rows.{someRow, isCode, isName, isDocument, isVersion, isKeyElsewhere, isOtherKey}
+use Rattle.index.specs.declared.Keys.{Keys}
 use Rattle.index.specs.SetKeys.{keysOf}
 use Rattle.values.specs.Attributes.{attributeOf}
 use Rattle.values.specs.Texts.{textOf}
@@ -66,8 +67,8 @@ module _ (s rows roles : List ℕ) (t : DocumentType) (n from : ℕ) (e : from �
   pub keys-here : (c : List ℕ) → KeysServed c (attribute (draft s rows roles t) m (text "root")) u p x → KeysServed c w u p x
   keys-here c l = rw its-set at l
 
-  pub told-here : KeysTold (attribute (draft s rows roles t) m (text "root")) u p x → 0 < length x → keysAt p ≡ keysOf requestCode w u (p .history) (p .nhistory)
-  told-here l h = rw its-set at (l .told h)
+  pub told-here : KeysTold (attribute (draft s rows roles t) m (text "root")) u p x → 0 < length x → (r : Keys) → r ≡ keysAt p → r ≡ keysOf requestCode w u (p .history) (p .nhistory)
+  told-here l h r q = q ∙ (rw its-set at (l .told h))
 
 module _ (t : DocumentType) (set u : List ℕ) (p : Places) (x : List ℕ) (l : KeysServed (typeCode t) set u p x) where
   pub none-served : t ≡ Neither → KeysServed [] set u p x

@@ -1,4 +1,5 @@
-// Whether a demand is broken under the tables.
+// Whether a demand is broken under the tables. The questions that many elements put are put with the bytes that stand in the document, and take
+// rooms only where a value has to be decoded.
 ghost use mathlib.Core.Path.{_≡_};
 ghost use Rattle.scan.specs.Bytes.{text};
 ghost use Rattle.lines.specs.Lines.{rowsAt};
@@ -6,12 +7,13 @@ ghost use Rattle.rows.specs.Rows.{someRow, isCode, isName, isDocument, isVersio
 ghost use Rattle.drafts.specs.Drafts.{draft, attribute, said};
 ghost use Rattle.header.specs.Header.{requestCode};
 ghost use Rattle.answers.specs.Answers.{typeCode, tablesAt, isBroken};
-ghost use Rattle.answers.specs.Served.{CodesServed, NamesServed, KeysServed, KeysTold, Served};
+ghost use Rattle.answers.specs.Served.{CodesServed, NamesServed, KeysServed, keysAt, KeysTold, Served};
 use drafts::Demand;
 use drafts::first_byte;
 use index::Keys;
 use paths::DocumentType;
 use rows::Question;
+use values::Place;
 
 // Where the rows of each section of a tables file stand, and how many there are; the setId whose keys in the history are indexed, where its first
 // row stands, and whether its rows have several keys.
@@ -27,8 +29,8 @@ pub struct Places {
     pub several: bool,
 }
 
-// Whether a row of the code list has the code, system and display name of element k.
-fn has_code(
+// The answer of `has_code` where a value has to be decoded.
+fn has_code_decoded(
     document: &[u8],
     elements: &[u32],
     roles: &[u8],
@@ -60,8 +62,42 @@ fn has_code(
     )
 }
 
-// Whether a row of the register has the number of id i and the name k.
-fn has_name(
+// Whether a row of the code list has the code, system and display name of element k.
+fn has_code(
+    document: &[u8],
+    elements: &[u32],
+    roles: &[u8],
+    kind: DocumentType,
+    tables: &[u8],
+    places: Places,
+    codes: &[u32],
+    k: usize,
+) -> bool
+    requires { ⌜ CodesServed (now tables) places (now codes) ⌝ }
+    ensures { λ r. ⌜ r ≡ someRow (isCode (attribute (draft (now (document .entry)) (now (elements .entry)) (now (roles .entry)) kind) k (text "code")) (attribute (draft (now (document .entry)) (now (elements .entry)) (now (roles .entry)) kind) k (text "codeSystem")) (attribute (draft (now (document .entry)) (now (elements .entry)) (now (roles .entry)) kind) k (text "displayName"))) (rowsAt (now (tables .entry)) (places .codes) (places .ncodes)) ⌝ }
+{
+    let first = first_byte(document, elements, roles, kind, k);
+    if let Place::At(a, e) = values::plain_attribute(document, first, b"code") {
+        if let Place::At(b, f) = values::plain_attribute(document, first, b"codeSystem") {
+            if let Place::At(c, g) = values::plain_attribute(document, first, b"displayName") {
+                return index::some_row(
+                    Question::Code,
+                    tables,
+                    places.codes,
+                    places.ncodes,
+                    codes,
+                    &document[a..e],
+                    &document[b..f],
+                    &document[c..g],
+                );
+            }
+        }
+    }
+    has_code_decoded(document, elements, roles, kind, tables, places, codes, k)
+}
+
+// The answer of `has_name` where a value has to be decoded.
+fn has_name_decoded(
     document: &[u8],
     elements: &[u32],
     roles: &[u8],
@@ -91,6 +127,40 @@ fn has_name(
         value1,
         value1,
     )
+}
+
+// Whether a row of the register has the number of id i and the name k.
+fn has_name(
+    document: &[u8],
+    elements: &[u32],
+    roles: &[u8],
+    kind: DocumentType,
+    tables: &[u8],
+    places: Places,
+    names: &[u32],
+    i: usize,
+    k: usize,
+) -> bool
+    requires { ⌜ NamesServed (now tables) places (now names) ⌝ }
+    ensures { λ r. ⌜ r ≡ someRow (isName (attribute (draft (now (document .entry)) (now (elements .entry)) (now (roles .entry)) kind) i (text "extension")) (said (draft (now (document .entry)) (now (elements .entry)) (now (roles .entry)) kind) k)) (rowsAt (now (tables .entry)) (places .names) (places .nnames)) ⌝ }
+{
+    let at0 = first_byte(document, elements, roles, kind, i);
+    let at1 = first_byte(document, elements, roles, kind, k);
+    if let Place::At(a, e) = values::plain_attribute(document, at0, b"extension") {
+        if let Place::At(b, f) = values::plain_text(document, at1) {
+            return index::some_row(
+                Question::Name,
+                tables,
+                places.names,
+                places.nnames,
+                names,
+                &document[a..e],
+                &document[b..f],
+                &document[b..f],
+            );
+        }
+    }
+    has_name_decoded(document, elements, roles, kind, tables, places, names, i, k)
 }
 
 // Whether a row of the history has the document id k.
@@ -133,8 +203,8 @@ fn has_version(
     rows::has_version(tables, places.history, places.nhistory, value0, value1)
 }
 
-// Whether a row of the history of this type has the key of id k under another set id than s.
-fn has_key_of(
+// The answer of `has_key_of` where a value has to be decoded.
+fn has_key_decoded(
     document: &[u8],
     elements: &[u32],
     roles: &[u8],
@@ -174,6 +244,62 @@ fn has_key_of(
         code,
         value0,
         value1,
+    )
+}
+
+// Whether a row of the history of this type has the key of id k under another set id than s.
+fn has_key_of(
+    document: &[u8],
+    elements: &[u32],
+    roles: &[u8],
+    kind: DocumentType,
+    tables: &[u8],
+    places: Places,
+    keys: &[u32],
+    code: &[u8],
+    k: usize,
+    s: usize,
+) -> bool
+    requires { ⌜ KeysServed (now code) (attribute (draft (now document) (now elements) (now roles) kind) (places .set) (text "root")) (now tables) places (now keys) ⌝ }
+    ensures { λ r. ⌜ r ≡ someRow (isKeyElsewhere (now (code .entry)) (attribute (draft (now (document .entry)) (now (elements .entry)) (now (roles .entry)) kind) k (text "extension")) (attribute (draft (now (document .entry)) (now (elements .entry)) (now (roles .entry)) kind) s (text "root"))) (rowsAt (now (tables .entry)) (places .history) (places .nhistory)) ⌝ }
+{
+    let at0 = first_byte(document, elements, roles, kind, k);
+    let at1 = first_byte(document, elements, roles, kind, s);
+    if let Place::At(a, e) = values::plain_attribute(document, at0, b"extension") {
+        if let Place::At(b, f) = values::plain_attribute(document, at1, b"root") {
+            if s == places.set {
+                return index::some_row(
+                    Question::KeyElsewhere,
+                    tables,
+                    places.history,
+                    places.nhistory,
+                    keys,
+                    code,
+                    &document[a..e],
+                    &document[b..f],
+                );
+            }
+            return rows::has_key_elsewhere(
+                tables,
+                places.history,
+                places.nhistory,
+                code,
+                &document[a..e],
+                &document[b..f],
+            );
+        }
+    }
+    has_key_decoded(
+        document,
+        elements,
+        roles,
+        kind,
+        tables,
+        places,
+        keys,
+        code,
+        k,
+        s,
     )
 }
 
@@ -232,8 +358,18 @@ fn has_key_elsewhere(
     }
 }
 
-// Whether a row of the history of a request with the set id s has another key than that of id k.
-fn has_other_key(
+// What the places tell of the keys of rows with the set id.
+fn told_keys(places: Places) -> Keys
+    ensures { λ r. ⌜ r ≡ keysAt places ⌝ }
+{
+    Keys {
+        first: places.first,
+        several: places.several,
+    }
+}
+
+// The answer of `has_other_key` where a value has to be decoded.
+fn has_other_key_decoded(
     document: &[u8],
     elements: &[u32],
     roles: &[u8],
@@ -255,17 +391,13 @@ fn has_other_key(
     let value1 = values::attribute(document, at1, b"extension", &mut room1);
     if 0 < keys.len() {
         if s == places.set {
-            let told = Keys {
-                first: places.first,
-                several: places.several,
-            };
             return index::has_other_key(
                 tables,
                 places.history,
                 places.nhistory,
                 b"51726-8",
                 value0,
-                told,
+                told_keys(places),
                 value1,
             );
         }
@@ -278,6 +410,51 @@ fn has_other_key(
         value0,
         value1,
     )
+}
+
+// Whether a row of the history of a request with the set id s has another key than that of id k.
+fn has_other_key(
+    document: &[u8],
+    elements: &[u32],
+    roles: &[u8],
+    kind: DocumentType,
+    tables: &[u8],
+    places: Places,
+    keys: &[u32],
+    k: usize,
+    s: usize,
+) -> bool
+    requires { ⌜ KeysTold (attribute (draft (now document) (now elements) (now roles) kind) (places .set) (text "root")) (now tables) places (now keys) ⌝ }
+    ensures { λ r. ⌜ r ≡ someRow (isOtherKey requestCode (attribute (draft (now (document .entry)) (now (elements .entry)) (now (roles .entry)) kind) s (text "root")) (attribute (draft (now (document .entry)) (now (elements .entry)) (now (roles .entry)) kind) k (text "extension"))) (rowsAt (now (tables .entry)) (places .history) (places .nhistory)) ⌝ }
+{
+    let at0 = first_byte(document, elements, roles, kind, s);
+    let at1 = first_byte(document, elements, roles, kind, k);
+    if let Place::At(a, e) = values::plain_attribute(document, at0, b"root") {
+        if let Place::At(b, f) = values::plain_attribute(document, at1, b"extension") {
+            if 0 < keys.len() {
+                if s == places.set {
+                    return index::has_other_key(
+                        tables,
+                        places.history,
+                        places.nhistory,
+                        b"51726-8",
+                        &document[a..e],
+                        told_keys(places),
+                        &document[b..f],
+                    );
+                }
+            }
+            return rows::has_other_key(
+                tables,
+                places.history,
+                places.nhistory,
+                b"51726-8",
+                &document[a..e],
+                &document[b..f],
+            );
+        }
+    }
+    has_other_key_decoded(document, elements, roles, kind, tables, places, keys, k, s)
 }
 
 // Whether the demand is broken under the tables.

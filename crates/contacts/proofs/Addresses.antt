@@ -1,9 +1,10 @@
 -- Addresses, 24 and 25: one law for each branch of the code.
 -- Assumes nothing.
-use mathlib.Core.Path.{_≡_, _∙_}
+use mathlib.Core.Path.{_≡_, sym, _∙_}
 use mathlib.Core.Bool.{Bool, true, false}
 use Prim.Native.Nat.{ℕ}
 use Rattle.scan.specs.Choice.{not}
+use Rattle.scan.proofs.Tests.{and-true, and-false}
 use Rattle.scan.specs.Bytes.{text}
 use Rattle.scan.specs.declared.Found.{Found}
 use Rattle.scan.specs.declared.Found.the-variants.{At, Nothing}
@@ -89,21 +90,25 @@ module _ (d : Draft) (n : ℕ) (a : Bool) (e : a ≡ is d Addr n) where
     unfolding isHeld
     held-is h r i = i ∙ rw (← e, f, ← q, ← g, h)
 
-module _ (d : Draft) (n : ℕ) (a : Bool) (e : a ≡ isHeld d n) where
-  pub other-25 : a ≡ false → false ≡ breaks25 d n
+pub other-25 : (d : Draft) (n : ℕ) (a : Bool) → a ≡ is d Addr n → a ≡ false → false ≡ breaks25 d n
+unfolding breaks25 isHeld
+other-25 d n a e f = rw (← e, f)
+
+module _ (d : Draft) (n : ℕ) (a : Bool) (e : a ≡ isUsa d n) where
+  pub abroad-25 : a ≡ false → false ≡ breaks25 d n
   unfolding breaks25
-  other-25 f = rw (← e, f)
+  abroad-25 f = rw (← e, f) (sym (and-false (isHeld d n)))
 
-  module _ (f : a ≡ true) (c : Bool) (i : c ≡ isUsa d n) where
-    pub abroad-25 : c ≡ false → false ≡ breaks25 d n
+  module _ (f : a ≡ true) (s : Bool) (g : s ≡ oneSaid d n State) where
+    pub state-25 : s ≡ false → (r : Bool) → r ≡ isHeld d n → r ≡ breaks25 d n
     unfolding breaks25
-    abroad-25 j = rw (← e, f, ← i, j)
+    state-25 h r i = i ∙ rw (← e, f, ← g, h) (sym (and-true (isHeld d n)))
 
-    module _ (j : c ≡ true) (s : Bool) (k : s ≡ oneSaid d n State) where
-      pub state-25 : s ≡ false → true ≡ breaks25 d n
+    module _ (h : s ≡ true) (c : Bool) (i : c ≡ oneSaid d n PostalCode) where
+      pub both-25 : c ≡ true → false ≡ breaks25 d n
       unfolding breaks25
-      state-25 l = rw (← e, f, ← i, j, ← k, l)
+      both-25 j = rw (← e, f, ← g, h, ← i, j) (sym (and-false (isHeld d n)))
 
-      pub code-25 : s ≡ true → (r : Bool) → r ≡ oneSaid d n PostalCode → not r ≡ breaks25 d n
+      pub code-25 : c ≡ false → (r : Bool) → r ≡ isHeld d n → r ≡ breaks25 d n
       unfolding breaks25
-      code-25 l r m = rw (← e, f, ← i, j, ← k, l, ← m)
+      code-25 j r k = k ∙ rw (← e, f, ← g, h, ← i, j) (sym (and-true (isHeld d n)))

@@ -1,9 +1,10 @@
 -- Who has a contact, and the person of a contactParty: one law for each branch of the code.
 -- Assumes nothing.
-use mathlib.Core.Path.{_≡_, _∙_}
+use mathlib.Core.Path.{_≡_, sym, _∙_}
 use mathlib.Core.Bool.{Bool, true, false}
 use Prim.Native.Nat.{ℕ}
 use Rattle.scan.specs.Choice.{not}
+use Rattle.scan.proofs.Tests.{and-true, and-false}
 use Rattle.scan.specs.declared.Found.{Found}
 use Rattle.scan.specs.declared.Found.the-variants.{At, Nothing}
 use Rattle.paths.specs.declared.Role.{Role}
@@ -69,11 +70,11 @@ module _ (d : Draft) (n : ℕ) (a : Bool) (e : a ≡ is d ContactParty n) where
     unfolding breaks30
     nobody-30 h = rw (← e, f, ← q, ← g, h)
 
-    module _ (h : b ≡ true) (c : Bool) (i : c ≡ isThe (onlyKid d p ContactParty) n) where
-      pub many-30 : c ≡ false → false ≡ breaks30 d n
+    module _ (h : b ≡ true) (c : Bool) (i : c ≡ personHolds d n) where
+      pub person-30 : c ≡ true → false ≡ breaks30 d n
       unfolding breaks30
-      many-30 j = rw (← e, f, ← q, ← g, h, ← i, j)
+      person-30 j = rw (← e, f, ← q, ← g, h, ← i, j) (sym (and-false (isThe (onlyKid d p ContactParty) n)))
 
-      pub person-30 : c ≡ true → (r : Bool) → r ≡ personHolds d n → not r ≡ breaks30 d n
+      pub only-30 : c ≡ false → (r : Bool) → r ≡ isThe (onlyKid d p ContactParty) n → r ≡ breaks30 d n
       unfolding breaks30
-      person-30 j r k = rw (← e, f, ← q, ← g, h, ← i, j, ← k)
+      only-30 j r k = k ∙ rw (← e, f, ← q, ← g, h, ← i, j) (sym (and-true (isThe (onlyKid d p ContactParty) n)))

@@ -166,6 +166,7 @@ fn is_held(document: &[u8], elements: &[u32], roles: &[u8], kind: DocumentType, 
 }
 
 // Whether 25 is broken at element n.
+// Whether 24 holds is the dearest question and seldom needed, so it is asked last.
 pub fn breaks_25(
     document: &[u8],
     elements: &[u32],
@@ -175,16 +176,19 @@ pub fn breaks_25(
 ) -> bool
     ensures { λ r. ⌜ r ≡ breaks25 (draft (now (document .entry)) (now (elements .entry)) (now (roles .entry)) kind) n ⌝ }
 {
-    if !is_held(document, elements, roles, kind, n) {
+    if !is_role(document, elements, roles, kind, n, Role::Addr) {
         return false;
     }
     if !is_usa(document, elements, roles, kind, n) {
         return false;
     }
-    if !one_said(document, elements, roles, kind, n, Role::State) {
-        return true;
+    if one_said(document, elements, roles, kind, n, Role::State) {
+        if one_said(document, elements, roles, kind, n, Role::PostalCode) {
+            return false;
+        }
+        return is_held(document, elements, roles, kind, n);
     }
-    !one_said(document, elements, roles, kind, n, Role::PostalCode)
+    is_held(document, elements, roles, kind, n)
 }
 
 // Whether 26 to 28 judge element n.
@@ -302,6 +306,7 @@ fn person_holds(
 }
 
 // Whether 30 is broken at element n.
+// The person mostly decides, so whether the party is the only one is asked last.
 pub fn breaks_30(
     document: &[u8],
     elements: &[u32],
@@ -318,9 +323,9 @@ pub fn breaks_30(
     if !has_contact(document, elements, roles, kind, holder) {
         return false;
     }
-    let party = Role::ContactParty;
-    if !is_only_kid(document, elements, roles, kind, holder, party, n) {
+    if person_holds(document, elements, roles, kind, n) {
         return false;
     }
-    !person_holds(document, elements, roles, kind, n)
+    let party = Role::ContactParty;
+    is_only_kid(document, elements, roles, kind, holder, party, n)
 }

@@ -17,6 +17,7 @@ use Rattle.scan.specs.declared.Found.{Found}
 use Rattle.scan.specs.declared.Found.the-variants.{At, Nothing}
 use Rattle.facts.specs.Strings.{equal, beginsWith}
 use Rattle.paths.specs.declared.DocumentType.{DocumentType}
+use Rattle.paths.specs.Roles.{roleNumber}
 use Rattle.drafts.specs.declared.Test.{Test}
 use Rattle.drafts.specs.declared.Test.the-variants.{Any, DunsRoot, LabelerRoot, Telephone, Mail, Agent, Import, Empty}
 use Rattle.drafts.specs.declared.Wanted.{Wanted}
@@ -83,15 +84,6 @@ module _ (d : Draft) (w : Wanted) (n k : ℕ) where
     unfolding placed
     there h r i = i ∙ rw (← g, eq-eqb a n h)
 
-  module _ (b : Bool) (e : b ≡ is d (w .role) k) where
-    pub other-role : b ≡ false → false ≡ wants d w n k
-    unfolding wants
-    other-role f = rw (← e, f)
-
-    pub its-role : b ≡ true → (r : Bool) → r ≡ placed d w n k → r ≡ wants d w n k
-    unfolding wants
-    its-role f r i = i ∙ rw (← e, f)
-
 -- ---- the list from one number to the next
 module _ (d : Draft) (w : Wanted) (n : ℕ) where
   step : (k m : ℕ) → count d - k ≡ suc m → chosenFrom d w n k ≡ pick (inside d n k) (pick (wants d w n k) (k ∷ within d w n (k + 1) m) (within d w n (k + 1) m)) []
@@ -137,17 +129,6 @@ module _ (s rows roles : List ℕ) (t : DocumentType) (w : Wanted) (n : ℕ) whe
     pub next-ends : length rows / 4 ≤ k → Nothing ≡ firstOne (chosenFrom (draft s rows roles t) w n from)
     next-ends h = sym (l ∙ rw (no-more (draft s rows roles t) w n k (omega (arith, its-count))))
 
-    module _ (h : k < length rows / 4) (end at : ℕ) (p : end ≡ after (draft s rows roles t) n) (q : at ≡ first (draft s rows roles t) k) where
-      pub next-over : end ≤ at → Nothing ≡ firstOne (chosenFrom (draft s rows roles t) w n from)
-      next-over g = sym (l ∙ rw (is-over (draft s rows roles t) w n k (omega (arith, its-count)) (omega (arith, p, q))))
-
-      module _ (g : at < end) (b : Bool) (e : b ≡ wants (draft s rows roles t) w n k) where
-        pub next-is : b ≡ true → At k ≡ firstOne (chosenFrom (draft s rows roles t) w n from)
-        next-is f = sym (l ∙ rw (is-next (draft s rows roles t) w n k (omega (arith, its-count)) (omega (arith, p, q)) (sym e ∙ f)))
-
-        pub next-goes : b ≡ false → Next (draft s rows roles t) w n from (k + 1)
-        next-goes f = l ∙ rw (is-later (draft s rows roles t) w n k (omega (arith, its-count)) (omega (arith, p, q)) (sym e ∙ f))
-
   -- ---- how many
   pub record Counted (found k : ℕ) : Type 0 where
     pub sum : length (chosen (draft s rows roles t) w n) ≡ found + length (chosenFrom (draft s rows roles t) w n k)
@@ -161,19 +142,66 @@ module _ (s rows roles : List ℕ) (t : DocumentType) (w : Wanted) (n : ℕ) whe
     pub counted-ends : length rows / 4 ≤ k → found ≡ length (chosen (draft s rows roles t) w n)
     counted-ends h = omega (arith, l .sum, ap length (no-more (draft s rows roles t) w n k (omega (arith, its-count))))
 
-    module _ (h : k < length rows / 4) (end at : ℕ) (p : end ≡ after (draft s rows roles t) n) (q : at ≡ first (draft s rows roles t) k) where
-      pub counted-fits : length rows / 4 < 2 ^ 64 → Fits w64 (found + 1)
-      counted-fits g = omega (arith, l .few)
+    pub counted-fits : k < length rows / 4 → length rows / 4 < 2 ^ 64 → Fits w64 (found + 1)
+    counted-fits h g = omega (arith, l .few)
 
-      pub counted-over : end ≤ at → found ≡ length (chosen (draft s rows roles t) w n)
-      counted-over g = omega (arith, l .sum, ap length (is-over (draft s rows roles t) w n k (omega (arith, its-count)) (omega (arith, p, q))))
+  -- ---- the next number, by the first byte in the element's row, its role's number and its place
+  module _ (end : ℕ) (p : end ≡ after (draft s rows roles t) n) where
+    module _ (k : ℕ) (h : k < length rows / 4) where
+      its-first : getD rows (4 * k + 2) 0 ≡ first (draft s rows roles t) k
+      unfolding draft
+      its-first = refl
 
-      module _ (g : at < end) (b : Bool) (e : b ≡ wants (draft s rows roles t) w n k) where
-        pub counted-one : b ≡ true → Counted (found + 1) (k + 1)
-        counted-one f = record { sum = omega (arith, l .sum, ap length (is-next (draft s rows roles t) w n k (omega (arith, its-count)) (omega (arith, p, q)) (sym e ∙ f))); few = omega (arith, l .few) }
+      over : end ≤ getD rows (4 * k + 2) 0 → chosenFrom (draft s rows roles t) w n k ≡ []
+      over g = is-over (draft s rows roles t) w n k (omega (arith, its-count)) (omega (arith, p, its-first))
 
-        pub counted-goes : b ≡ false → Counted found (k + 1)
-        counted-goes f = record { sum = omega (arith, l .sum, ap length (is-later (draft s rows roles t) w n k (omega (arith, its-count)) (omega (arith, p, q)) (sym e ∙ f))); few = omega (arith, l .few) }
+      module _ (g : getD rows (4 * k + 2) 0 < end) where
+        one-more : wants (draft s rows roles t) w n k ≡ true → chosenFrom (draft s rows roles t) w n k ≡ k ∷ chosenFrom (draft s rows roles t) w n (k + 1)
+        one-more = is-next (draft s rows roles t) w n k (omega (arith, its-count)) (omega (arith, p, its-first))
+
+        later : wants (draft s rows roles t) w n k ≡ false → chosenFrom (draft s rows roles t) w n k ≡ chosenFrom (draft s rows roles t) w n (k + 1)
+        later = is-later (draft s rows roles t) w n k (omega (arith, its-count)) (omega (arith, p, its-first))
+
+    pub next-over : (from k : ℕ) → Next (draft s rows roles t) w n from k → k < length rows / 4 → end ≤ getD rows (4 * k + 2) 0 → Nothing ≡ firstOne (chosenFrom (draft s rows roles t) w n from)
+    next-over from k l h g = sym (l ∙ rw (over k h g))
+
+    pub counted-over : (found k : ℕ) → Counted found k → k < length rows / 4 → end ≤ getD rows (4 * k + 2) 0 → found ≡ length (chosen (draft s rows roles t) w n)
+    counted-over found k l h g = omega (arith, l .sum, ap length (over k h g))
+
+    module _ (y : ℕ) (f : y ≡ roleNumber (w .role)) where
+      module _ (k x : ℕ) (e : x ≡ getD roles k 0) where
+        other-role : (x ≡ y → ⊥) → wants (draft s rows roles t) w n k ≡ false
+        unfolding draft wants is
+        other-role i = rw (← e, ← f, ne-eqb x y i)
+
+        its-role : x ≡ y → wants (draft s rows roles t) w n k ≡ placed (draft s rows roles t) w n k
+        unfolding draft wants is
+        its-role i = rw (← e, ← f, eq-eqb x y i)
+
+      module _ (from k : ℕ) (l : Next (draft s rows roles t) w n from k) (h : k < length rows / 4) (g : getD rows (4 * k + 2) 0 < end) (x : ℕ) (e : x ≡ getD roles k 0) where
+        pub next-other : (x ≡ y → ⊥) → Next (draft s rows roles t) w n from (k + 1)
+        next-other i = l ∙ rw (later k h g (other-role k x e i))
+
+        module _ (i : x ≡ y) (r : Bool) (u : r ≡ placed (draft s rows roles t) w n k) where
+          pub next-is : r ≡ true → At k ≡ firstOne (chosenFrom (draft s rows roles t) w n from)
+          next-is v = sym (l ∙ rw (one-more k h g (its-role k x e i ∙ sym u ∙ v)))
+
+          pub next-misses : r ≡ false → Next (draft s rows roles t) w n from (k + 1)
+          next-misses v = l ∙ rw (later k h g (its-role k x e i ∙ sym u ∙ v))
+
+      module _ (found k : ℕ) (l : Counted found k) (h : k < length rows / 4) (g : getD rows (4 * k + 2) 0 < end) (x : ℕ) (e : x ≡ getD roles k 0) where
+        past : wants (draft s rows roles t) w n k ≡ false → Counted found (k + 1)
+        past v = record { sum = omega (arith, l .sum, ap length (later k h g v)); few = omega (arith, l .few) }
+
+        pub counted-other : (x ≡ y → ⊥) → Counted found (k + 1)
+        counted-other i = past (other-role k x e i)
+
+        module _ (i : x ≡ y) (r : Bool) (u : r ≡ placed (draft s rows roles t) w n k) where
+          pub counted-one : r ≡ true → Counted (found + 1) (k + 1)
+          counted-one v = record { sum = omega (arith, l .sum, ap length (one-more k h g (its-role k x e i ∙ sym u ∙ v))); few = omega (arith, l .few) }
+
+          pub counted-misses : r ≡ false → Counted found (k + 1)
+          counted-misses v = past (its-role k x e i ∙ sym u ∙ v)
 
   -- ---- past the end of the table there is none
   empty-past : length rows ≤ n → chosen (draft s rows roles t) w n ≡ []

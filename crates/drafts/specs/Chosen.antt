@@ -51,9 +51,11 @@ unfoldable pub ancestor : Draft → ℕ → ℕ → ℕ
 ancestor d zero k = k
 ancestor d (suc levels) k = ancestor d levels (parent d k)
 
+-- element k stands so many levels below n, and passes the test
 unfoldable pub placed : Draft → Wanted → ℕ → ℕ → Bool
 placed d w n k = eqb (ancestor d (w .levels) k) n and passes d (w .test) k
 
+-- and has the role that is looked for
 unfoldable pub wants : Draft → Wanted → ℕ → ℕ → Bool
 wants d w n k = is d (w .role) k and placed d w n k
 

@@ -4,12 +4,11 @@ ghost use Prim.Native.Nat.{_+_};
 ghost use lib.ListN.{length};
 ghost use Rattle.scan.specs.Choice.{not};
 ghost use Rattle.drafts.specs.Drafts.{draft, parent, after, is, isKnown, isEmpty};
-ghost use Rattle.drafts.specs.Chosen.{passes, ancestor, placed, wants, chosenFrom, chosen, firstOne, onlyOne, isThe, onlyKid};
+ghost use Rattle.drafts.specs.Chosen.{passes, ancestor, placed, chosenFrom, chosen, firstOne, onlyOne, isThe, onlyKid};
 use crate::Test;
 use crate::Wanted;
 use crate::tests::attribute_begins;
 use crate::tests::attribute_is;
-use crate::tests::first_byte;
 use crate::tests::number;
 use crate::tests::text_is_empty;
 use paths::DocumentType;
@@ -147,26 +146,8 @@ fn is_placed(
     false
 }
 
-// Whether element k is looked for below n.
-fn is_wanted(
-    document: &[u8],
-    elements: &[u32],
-    roles: &[u8],
-    kind: DocumentType,
-    wanted: Wanted,
-    n: usize,
-    k: usize,
-) -> bool
-    ensures { λ r. ⌜ r ≡ wants (draft (now (document .entry)) (now (elements .entry)) (now (roles .entry)) kind) wanted n k ⌝ }
-{
-    let role = wanted.role;
-    if is_role(document, elements, roles, kind, k, role) {
-        return is_placed(document, elements, roles, kind, wanted, n, k);
-    }
-    false
-}
-
-// The next one below n, of the elements from this one on.
+// The next one below n, of the elements from this one on. Most have another role: the loop itself asks for it, and a call for each would
+// cost more than the question.
 fn next(
     document: &[u8],
     elements: &[u32],
@@ -179,13 +160,19 @@ fn next(
     ensures { λ r. ⌜ r ≡ firstOne (chosenFrom (draft (now (document .entry)) (now (elements .entry)) (now (roles .entry)) kind) wanted n from) ⌝ }
 {
     let end = byte_after(document, elements, roles, kind, n);
+    let role = wanted.role;
+    let sought = paths::role_number(role);
     let mut k = from;
     while k < elements.len() / 4 {
-        if end <= first_byte(document, elements, roles, kind, k) {
+        if end <= elements[4 * k + 2] as usize {
             return Found::Nothing;
         }
-        if is_wanted(document, elements, roles, kind, wanted, n, k) {
-            return Found::At(k);
+        if scan::byte(roles, k) == sought {
+            if is_placed(document, elements, roles, kind, wanted, n, k) {
+                return Found::At(k);
+            }
+            k += 1;
+            continue;
         }
         k += 1;
     }
@@ -347,14 +334,20 @@ pub fn how_many(
         return 0;
     }
     let end = byte_after(document, elements, roles, kind, n);
+    let role = wanted.role;
+    let sought = paths::role_number(role);
     let mut found = 0;
     let mut k = n + 1;
     while k < elements.len() / 4 {
-        if end <= first_byte(document, elements, roles, kind, k) {
+        if end <= elements[4 * k + 2] as usize {
             return found;
         }
-        if is_wanted(document, elements, roles, kind, wanted, n, k) {
-            found += 1;
+        if scan::byte(roles, k) == sought {
+            if is_placed(document, elements, roles, kind, wanted, n, k) {
+                found += 1;
+                k += 1;
+                continue;
+            }
             k += 1;
             continue;
         }

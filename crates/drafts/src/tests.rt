@@ -1,5 +1,5 @@
-// What an attribute or the text of an element says, put to a test. The tests that many elements come to look at the document itself where a
-// value says the bytes that stand there, and take a room for it only where it has to be decoded.
+// What an attribute or the text of an element says, put to a test. The tests look at the document itself where a value says the bytes that
+// stand there, and take a room for it only where it has to be decoded.
 ghost use mathlib.Core.Path.{_≡_};
 ghost use Prim.Native.Nat.{_+_, _*_, _^_, _<_};
 ghost use lib.ListN.{getD};
@@ -115,9 +115,12 @@ pub fn attribute_is_guid(
 ) -> bool
     ensures { λ r. ⌜ r ≡ isGuid (attribute (draft (now (document .entry)) (now (elements .entry)) (now (roles .entry)) kind) n (now (name .entry))) ⌝ }
 {
-    let mut room = [0u8; 4096];
     let first = first_byte(document, elements, roles, kind, n);
-    facts::is_guid(values::attribute(document, first, name, &mut room))
+    let Place::At(a, e) = values::plain_attribute(document, first, name) else {
+        let mut room = [0u8; 4096];
+        return facts::is_guid(values::attribute(document, first, name, &mut room));
+    };
+    facts::is_guid(&document[a..e])
 }
 
 pub fn attribute_is_day(
@@ -130,9 +133,12 @@ pub fn attribute_is_day(
 ) -> bool
     ensures { λ r. ⌜ r ≡ isDay (attribute (draft (now (document .entry)) (now (elements .entry)) (now (roles .entry)) kind) n (now (name .entry))) ⌝ }
 {
-    let mut room = [0u8; 4096];
     let first = first_byte(document, elements, roles, kind, n);
-    facts::is_day(values::attribute(document, first, name, &mut room))
+    let Place::At(a, e) = values::plain_attribute(document, first, name) else {
+        let mut room = [0u8; 4096];
+        return facts::is_day(values::attribute(document, first, name, &mut room));
+    };
+    facts::is_day(&document[a..e])
 }
 
 pub fn attribute_version(
@@ -145,9 +151,12 @@ pub fn attribute_version(
 ) -> u32
     ensures { λ r. ⌜ r ≡ versionOf (attribute (draft (now (document .entry)) (now (elements .entry)) (now (roles .entry)) kind) n (now (name .entry))) ⌝ }
 {
-    let mut room = [0u8; 4096];
     let first = first_byte(document, elements, roles, kind, n);
-    facts::version(values::attribute(document, first, name, &mut room))
+    let Place::At(a, e) = values::plain_attribute(document, first, name) else {
+        let mut room = [0u8; 4096];
+        return facts::version(values::attribute(document, first, name, &mut room));
+    };
+    facts::version(&document[a..e])
 }
 
 pub fn attribute_is_labeler_code(
@@ -160,9 +169,12 @@ pub fn attribute_is_labeler_code(
 ) -> bool
     ensures { λ r. ⌜ r ≡ isLabelerCode (attribute (draft (now (document .entry)) (now (elements .entry)) (now (roles .entry)) kind) n (now (name .entry))) ⌝ }
 {
-    let mut room = [0u8; 4096];
     let first = first_byte(document, elements, roles, kind, n);
-    facts::is_labeler_code(values::attribute(document, first, name, &mut room))
+    let Place::At(a, e) = values::plain_attribute(document, first, name) else {
+        let mut room = [0u8; 4096];
+        return facts::is_labeler_code(values::attribute(document, first, name, &mut room));
+    };
+    facts::is_labeler_code(&document[a..e])
 }
 
 pub fn attribute_is_telephone(
@@ -175,9 +187,12 @@ pub fn attribute_is_telephone(
 ) -> bool
     ensures { λ r. ⌜ r ≡ isTelephone (attribute (draft (now (document .entry)) (now (elements .entry)) (now (roles .entry)) kind) n (now (name .entry))) ⌝ }
 {
-    let mut room = [0u8; 4096];
     let first = first_byte(document, elements, roles, kind, n);
-    facts::is_telephone(values::attribute(document, first, name, &mut room))
+    let Place::At(a, e) = values::plain_attribute(document, first, name) else {
+        let mut room = [0u8; 4096];
+        return facts::is_telephone(values::attribute(document, first, name, &mut room));
+    };
+    facts::is_telephone(&document[a..e])
 }
 
 pub fn text_is(
@@ -190,9 +205,12 @@ pub fn text_is(
 ) -> bool
     ensures { λ r. ⌜ r ≡ equal (said (draft (now (document .entry)) (now (elements .entry)) (now (roles .entry)) kind) n) (now (wanted .entry)) ⌝ }
 {
-    let mut room = [0u8; 4096];
     let first = first_byte(document, elements, roles, kind, n);
-    facts::same(values::text(document, first, &mut room), wanted)
+    let Place::At(a, e) = values::plain_text(document, first) else {
+        let mut room = [0u8; 4096];
+        return facts::same(values::text(document, first, &mut room), wanted);
+    };
+    facts::same(&document[a..e], wanted)
 }
 
 pub fn text_is_empty(

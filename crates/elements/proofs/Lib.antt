@@ -1,4 +1,5 @@
 pub mod Rows
+pub mod Names
 pub mod Steps
 pub mod Keeps
 pub mod Walks

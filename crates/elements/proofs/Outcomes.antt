@@ -3,7 +3,6 @@
 use mathlib.Core.Path.{_≡_, refl, sym, _∙_, ap, subst}
 use mathlib.Core.List.{List, _++_}
 use Prim.Native.Nat.{ℕ, _+_, _*_, _<_, _≤_}
-use native.Mathlib.Omega.{arith}
 use borrow.Author.Tests.{lt-ltb, le-ltb, le-leb, lt-leb}
 use lib.ListN.{length, take, drop}
 use Rattle.chars.specs.Utf8.{firstBad}
@@ -11,6 +10,7 @@ use Rattle.elements.specs.declared.Answer.{Answer}
 use Rattle.elements.specs.declared.Answer.the-variants.{Elements, Refused}
 use Rattle.elements.specs.Elements.{Read, refused, elements, fresh, readFrom, elementsOf, answerOf, tableAfter, Leaves}
 use Rattle.elements.specs.Walked.{readOf}
+use Rattle.elements.proofs.Steps.{front-fits}
 use Rattle.elements.proofs.Preorder.{IsTable, reading-table}
 
 module _ (table : List ℕ) where
@@ -36,8 +36,8 @@ module _ (s : List ℕ) (r : Answer) (numbers : List ℕ) (w : readOf r numbers 
   pub rows-few : n ≤ 16384
   rows-few = subst (IsTable s) all-rows (reading-table s) .few
 
-  pub rows-there : (old : List ℕ) → 65536 ≤ length old → length numbers ≡ length old → 4 * n ≤ length numbers
-  rows-there old l e = omega (arith, rows-few)
+  pub rows-there : 4 * n ≤ length numbers
+  rows-there = front-fits (4 * n) numbers (subst (IsTable s) all-rows (reading-table s) .wide)
 
   pub is-delivered : (table : List ℕ) (a : Answer) (t : List ℕ) → Leaves (elements n (take (4 * n) numbers)) table a t → Leaves (readFrom s fresh) table a t
   is-delivered table a t d = rw all-rows d

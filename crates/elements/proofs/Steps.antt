@@ -7,7 +7,7 @@ use Prim.Native.Nat.{ℕ, zero, suc, _+_, _-_, _*_, _<_, _≤_}
 use native.Mathlib.Omega.{arith}
 use borrow.Author.Tests.{lt-ltb, le-ltb, le-leb, lt-leb}
 use lib.Dec.{ltb, leb}
-use lib.ListN.{length, take, drop, getD, set}
+use lib.ListN.{length, take, getD, set, length-take}
 use lib.Seq.{take-set-lt, getD-take}
 use Rattle.scan.specs.Choice.{pick, _or_, _and_}
 use Rattle.scan.specs.Turns.{Turn, on, out}
@@ -28,7 +28,7 @@ use Rattle.elements.specs.declared.Answer.the-variants.{Refused}
 use Rattle.elements.specs.declared.Stepped.{Stepped}
 use Rattle.elements.specs.declared.Stepped.the-variants.{On, Stopped}
 use Rattle.elements.specs.Elements.{Reading, Read, refused, elements, row, parentOf, firstOf, afterOf, passed, added, closed, hasRoom, adding, isNamed, contentFits, closing, partOf, byPiece}
-use Rattle.elements.specs.Walked.{reading, turnOf, refusalOf, stopOf, Sound, Steps}
+use Rattle.elements.specs.Walked.{reading, turnOf, refusalOf, stopOf, Sound, Steps, Roomy}
 
 -- ---- the part of the document
 pub part-inside : (count depth : ℕ) → 0 < depth → Inside ≡ partOf count depth
@@ -44,6 +44,16 @@ pub part-before : (count depth : ℕ) → depth ≤ 0 → count ≤ 0 → Before
 part-before zero zero h g = refl
 part-before zero (suc depth) h g = absurd (omega arith)
 part-before (suc count) depth h g = absurd (omega arith)
+
+-- ---- the room for rows
+pub front-fits : (n : ℕ) (numbers : List ℕ) → length (take n numbers) ≡ n → n ≤ length numbers
+front-fits n numbers e = omega (arith, length-take n numbers)
+
+pub row-fits : (n : ℕ) (numbers : List ℕ) → n < 16384 → Roomy (n + 1) numbers → 4 * n + 4 ≤ length numbers
+row-fits n numbers h w = omega (arith, w .room (n + 1) (omega arith) (omega arith))
+
+pub roomy-kept : (n : ℕ) (new old : List ℕ) → length new ≡ length old → Roomy n old → Roomy n new
+roomy-kept n new old e w = record { room = λ count h g. omega (arith, w .room count h g) }
 
 -- ---- an element is added
 module _ (d : Reader) (numbers : List ℕ) (after depth top : ℕ) where
@@ -119,9 +129,12 @@ module _ (s : List ℕ) (d : Reader) (numbers : List ℕ) (after : ℕ) (k : Ste
   unfolding reading
   deep-enough = k .ends refl .0
 
-  pub rows-inside : 65536 ≤ length numbers → 4 * d .count ≤ length numbers
-  unfolding reading turnOf adding closing
-  rows-inside h = omega (arith, k .sound .few)
+  pub rows-inside : 4 * d .count ≤ length numbers
+  unfolding reading
+  rows-inside = front-fits (4 * d .count) numbers (k .sound .wide)
+
+  row-inside : 4 * d .top + 4 ≤ length numbers
+  row-inside = omega (arith, rows-inside, top-low)
 
   pub few-rows : d .count ≤ 16384
   unfolding reading turnOf adding closing
@@ -160,6 +173,10 @@ module _ (s : List ℕ) (d : Reader) (numbers : List ℕ) (kind : Kind) (after :
   unfolding reading
   top-number-low = omega (arith, k .sound .inner, k .sound .few)
 
+  pub row-room : Roomy (length s) numbers → Roomy (d .count + 1) numbers
+  unfolding reading
+  row-room w = record { room = λ count h g. w .room count (omega (arith, k .sound .counted, k .ahead, k .inside)) g }
+
   pub after-low : after ≤ 1048576
   after-low = omega (arith, k .inside, k .short)
 
@@ -176,7 +193,7 @@ stopped-step x n at e = rw e
 pub no-stopped-step : (x : Stepped) (d : Reader) (at : ℕ) → x ≡ On d → Refused 7 at ≡ stopOf x at
 no-stopped-step x d at e = rw e
 
--- ---- names
+-- ---- names, for the layers above
 module _ (s : List ℕ) (i r : ℕ) (e : r ≡ nameEnd s i) where
   pub name-ahead : i ≤ r
   name-ahead = omega (arith, name-least s i)
@@ -187,9 +204,6 @@ module _ (s : List ℕ) (i r : ℕ) (e : r ≡ nameEnd s i) where
 -- behind the first byte of a tag the document goes on, or ends
 pub name-there : (s : List ℕ) (f : ℕ) → f < length s → f + 1 ≤ length s
 name-there s f h = omega arith
-
-pub names-same : (s : List ℕ) (i j a b : ℕ) (t : Bool) → a ≡ nameEnd s i → b ≡ nameEnd s j → t ≡ equal (take (a - i) (drop i s)) (take (b - j) (drop j s)) → t ≡ equal (nameAt s i) (nameAt s j)
-names-same s i j a b t ea eb e = rw (← ea, ← eb) e
 
 -- ---- one piece, by its kind
 module _ (s : List ℕ) (d : Reader) (numbers : List ℕ) (after : ℕ) (kind : Kind) (x : Turn Reading Read) where
@@ -229,3 +243,6 @@ is-passed d numbers after x e = rw e
 -- a step at an end tag is a step of that kind
 pub at-end : (s : List ℕ) (r : Reading) (kind : Kind) (after : ℕ) → kind ≡ End → Steps s r kind after → Steps s r End after
 at-end s r kind after e k = subst (λ (x : Kind). Steps s r x after) e k
+
+pub row-open : (s : List ℕ) (d : Reader) (numbers : List ℕ) (kind : Kind) (after : ℕ) → kind ≡ End → Steps s (reading d numbers) kind after → 4 * d .top + 4 ≤ length numbers
+row-open s d numbers kind after e k = row-inside s d numbers after (at-end s (reading d numbers) kind after e k)

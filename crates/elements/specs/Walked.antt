@@ -3,8 +3,10 @@
 use Prim.Native.Nat.{ℕ, _+_, _*_, _-_, _<_, _≤_}
 use mathlib.Core.Path.{_≡_}
 use mathlib.Core.List.{List}
-use lib.ListN.{length, take, getD}
+use lib.ListN.{length, take, drop, getD}
+use Rattle.scan.specs.Lists.{runFrom}
 use Rattle.scan.specs.Turns.{Turn, on, out}
+use Rattle.markup.specs.Names.{isNameChar}
 use Rattle.reader.specs.declared.Reader.{Reader}
 use Rattle.reader.specs.Limits.{documentLimit, elementsLimit}
 use Rattle.pieces.specs.declared.Scanned.{Scanned}
@@ -37,6 +39,10 @@ abbrev pub stopOf : Stepped → ℕ → Answer
 stopOf (On d) at = Refused 7 at
 stopOf (Stopped n) at = Refused n at
 
+-- the bytes of a name from position i on, whether a name starts there or not
+unfoldable pub nameBytes : List ℕ → ℕ → List ℕ
+nameBytes s i = take (runFrom isNameChar s i - i) (drop i s)
+
 -- what each reading keeps, so that its numbers are places and rows that exist
 pub record Sound (n : ℕ) (r : Reading) : Type 0 where
   pub within : r .at ≤ n
@@ -56,3 +62,7 @@ pub record Steps (s : List ℕ) (r : Reading) (kind : Kind) (after : ℕ) : Type
   pub ahead : r .at < after
   pub inside : after ≤ length s
   pub ends : kind ≡ End → (0 < r .depth) × (r .at + 2 ≤ after)
+
+-- the numbers have room for the rows of each number of elements that n bytes can hold, of which each takes one at least
+pub record Roomy (n : ℕ) (numbers : List ℕ) : Type 0 where
+  pub room : (count : ℕ) → count ≤ n → count ≤ elementsLimit → 4 * count ≤ length numbers

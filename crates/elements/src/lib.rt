@@ -3,13 +3,15 @@ ghost use mathlib.Core.Path.{_≡_};
 ghost use Prim.Native.Nat.{_+_, _*_, _≤_, _<_};
 ghost use mathlib.Core.List.{_++_};
 ghost use lib.ListN.{length, take, drop, getD};
+ghost use Rattle.scan.specs.Choice.{not};
+ghost use Rattle.markup.specs.Names.{isNameStart, isNameChar};
 ghost use Rattle.pieces.specs.Pieces.{nameAt};
 ghost use Rattle.facts.specs.Strings.{equal};
 ghost use Rattle.pieces.specs.declared.Kind.the-variants.{End};
 ghost use Rattle.pieces.specs.declared.Scanned.{Scanned};
 ghost use Rattle.elements.specs.Elements.{row, partOf, adding, closing, byPiece, contentFits, readFrom, fresh, elementsOf, Leaves};
 ghost use Rattle.elements.specs.Elements.{elements as elements′};
-ghost use Rattle.elements.specs.Walked.{reading, turnOf, readOf, refusalOf, stopOf, Steps};
+ghost use Rattle.elements.specs.Walked.{reading, turnOf, readOf, refusalOf, stopOf, nameBytes, Roomy, Steps};
 use pieces::Kind;
 use pieces::Part;
 use pieces::Scanned;
@@ -53,7 +55,7 @@ fn put_row(rows: &mut [u32], n: usize, parent: usize, first: usize, after: usize
 
 // A tag adds an element, where the limits leave room; then `depth` are open, the innermost of number `top`.
 fn add(reader: Reader, after: usize, depth: usize, top: usize, rows: &mut [u32]) -> Stepped
-    requires { ⌜ (65536 ≤ length (now rows)) × (reader .at ≤ 1048576) × (reader .top ≤ 1048576) × (after ≤ 1048576) ⌝ }
+    requires { ⌜ Roomy (reader .count + 1) (now rows) × (reader .at ≤ 1048576) × (reader .top ≤ 1048576) × (after ≤ 1048576) ⌝ }
     ensures { λ r. ⌜ (turnOf (reader .at) r (now (rows .exit)) ≡ adding (reading reader (now (rows .entry))) after depth top) × (length (now (rows .exit)) ≡ length (now (rows .entry))) ⌝ }
 {
     let count = reader.count;
@@ -86,19 +88,64 @@ fn content_fits(reader: Reader, rows: &[u32]) -> bool
     reader.at - start <= Reader::VALUE
 }
 
-// Whether the names at two places are the same.
+// Whether a name starts at k.
+fn starts_name(s: &[u8], k: usize) -> bool
+    ensures { λ r. ⌜ r ≡ isNameStart (getD (now (s .entry)) k 0) ⌝ }
+{
+    if s.len() <= k {
+        return false;
+    }
+    markup::is_name_start(s[k])
+}
+
+// Whether no byte of a name stands at k.
+fn name_over(s: &[u8], k: usize) -> bool
+    ensures { λ r. ⌜ r ≡ not (isNameChar (getD (now (s .entry)) k 0)) ⌝ }
+{
+    if s.len() <= k {
+        return true;
+    }
+    !markup::is_name_char(s[k])
+}
+
+// Whether the bytes of names from two places on are the same.
+fn same_bytes(s: &[u8], i: usize, j: usize) -> bool
+    ensures { λ r. ⌜ r ≡ equal (nameBytes (now (s .entry)) i) (nameBytes (now (s .entry)) j) ⌝ }
+{
+    let mut a = i;
+    let mut b = j;
+    while a < s.len() {
+        if markup::is_name_char(s[a]) {
+            if s.len() <= b {
+                return false;
+            }
+            if s[a] != s[b] {
+                return false;
+            }
+            a += 1;
+            b += 1;
+            continue;
+        }
+        return name_over(s, b);
+    }
+    name_over(s, b)
+}
+
+// Whether the names at two places are the same. Where a name starts at the first, its first byte tells whether one starts at the
+// second, so that place is not asked.
 fn same_name(s: &[u8], i: usize, j: usize) -> bool
     requires { ⌜ (i ≤ length (now s)) × (j ≤ length (now s)) ⌝ }
     ensures { λ r. ⌜ r ≡ equal (nameAt (now (s .entry)) i) (nameAt (now (s .entry)) j) ⌝ }
 {
-    let a = markup::name_end(s, i);
-    let b = markup::name_end(s, j);
-    facts::same(&s[i..a], &s[j..b])
+    if starts_name(s, i) {
+        return same_bytes(s, i, j);
+    }
+    !starts_name(s, j)
 }
 
 // An end tag closes the innermost open element.
 fn close(s: &[u8], reader: Reader, after: usize, rows: &mut [u32]) -> Stepped
-    requires { ⌜ Steps (now s) (reading reader (now rows)) End after × (65536 ≤ length (now rows)) ⌝ }
+    requires { ⌜ Steps (now s) (reading reader (now rows)) End after × (4 * reader .top + 4 ≤ length (now rows)) ⌝ }
     ensures { λ r. ⌜ (turnOf (reader .at) r (now (rows .exit)) ≡ closing (now (s .entry)) (reading reader (now (rows .entry))) after) × (length (now (rows .exit)) ≡ length (now (rows .entry))) ⌝ }
 {
     let k = 4 * reader.top;
@@ -133,7 +180,7 @@ fn pass(reader: Reader, after: usize) -> Stepped
 
 // One piece.
 fn step(s: &[u8], reader: Reader, kind: Kind, after: usize, rows: &mut [u32]) -> Stepped
-    requires { ⌜ Steps (now s) (reading reader (now rows)) kind after × (65536 ≤ length (now rows)) ⌝ }
+    requires { ⌜ Steps (now s) (reading reader (now rows)) kind after × Roomy (length (now s)) (now rows) ⌝ }
     ensures { λ r. ⌜ (turnOf (reader .at) r (now (rows .exit)) ≡ byPiece (now (s .entry)) (reading reader (now (rows .entry))) (Scanned.Piece kind after)) × (length (now (rows .exit)) ≡ length (now (rows .entry))) ⌝ }
 {
     match kind {
@@ -169,7 +216,7 @@ fn stop(next: Stepped, at: usize) -> Answer
 
 // All pieces of a document, with the rows in the front of a lent run of numbers.
 fn walk(s: &[u8], rows: &mut [u32]) -> Answer
-    requires { ⌜ (length (now s) ≤ 1048576) × (65536 ≤ length (now rows)) ⌝ }
+    requires { ⌜ (length (now s) ≤ 1048576) × Roomy (length (now s)) (now rows) ⌝ }
     ensures { λ r. ⌜ (readOf r (now (rows .exit)) ≡ readFrom (now (s .entry)) fresh) × (length (now (rows .exit)) ≡ length (now (rows .entry))) ⌝ }
 {
     let mut reader = Reader::new();
@@ -220,7 +267,7 @@ fn deliver(rows: &[u32], n: usize, elements: &mut [u32]) -> Answer
 
 // Reads the pieces of a document, with room for the rows lent.
 fn read_pieces(document: &[u8], rows: &mut [u32], elements: &mut [u32]) -> Answer
-    requires { ⌜ (length (now document) ≤ 1048576) × (65536 ≤ length (now rows)) ⌝ }
+    requires { ⌜ (length (now document) ≤ 1048576) × Roomy (length (now document)) (now rows) ⌝ }
     ensures { λ r. ⌜ Leaves (readFrom (now (document .entry)) fresh) (now (elements .entry)) r (now (elements .exit)) ⌝ }
 {
     let got = walk(document, rows);
@@ -228,6 +275,16 @@ fn read_pieces(document: &[u8], rows: &mut [u32], elements: &mut [u32]) -> Answe
         return got;
     };
     deliver(rows, n, elements)
+}
+
+// The same of a document in which at most 2,048 elements can stand, with a room for these, so that the large room is not cleared for
+// it.
+fn read_small(document: &[u8], elements: &mut [u32]) -> Answer
+    requires { ⌜ length (now document) ≤ 2048 ⌝ }
+    ensures { λ r. ⌜ Leaves (readFrom (now (document .entry)) fresh) (now (elements .entry)) r (now (elements .exit)) ⌝ }
+{
+    let mut rows = [0u32; 8192];
+    read_pieces(document, &mut rows, elements)
 }
 
 // Reads a document: refuses it with 1 or 5 to 9 and leaves the table as it was, or fills the front of the table with the rows of
@@ -241,6 +298,9 @@ pub fn read(document: &[u8], elements: &mut [u32]) -> Answer
     let bad = chars::first_bad(document);
     if bad < document.len() {
         return Answer::Refused(5, bad);
+    }
+    if document.len() <= 2048 {
+        return read_small(document, elements);
     }
     let mut rows = [0u32; 65536];
     read_pieces(document, &mut rows, elements)

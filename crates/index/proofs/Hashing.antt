@@ -6,6 +6,8 @@ use mathlib.Core.Bool.{Bool, true}
 use mathlib.Core.List.{List, [], _∷_}
 use Prim.Native.Nat.{ℕ, _+_, _*_, _%_, _<_, _≤_, _^_}
 use native.Mathlib.Omega.{arith}
+use types.Run.{OneOf, miss}
+use denote.Enum.Declared.{tagOf}
 use borrow.Author.Tests.{eqb-true}
 use lib.Dec.{eqb}
 use lib.ListN.{length, drop, getD, drop-of-length-le}
@@ -17,6 +19,7 @@ use Rattle.scan.proofs.Within.{drop-here}
 use Rattle.facts.specs.Strings.{equal, equalInAnyCase}
 use Rattle.facts.proofs.StringLaws.{equal-is}
 use Rattle.lines.specs.Lines.{Row, field}
+use Rattle.rows.proofs.Question.{the-type}
 use Rattle.rows.specs.declared.Question.{Question}
 use Rattle.rows.specs.Rows.{isAsked, isCode, isName, isKeyElsewhere}
 use Rattle.index.specs.Hashes.{buckets, mixed, hashFrom, bucketAt, bucketOf}
@@ -63,11 +66,35 @@ row-low q row = bucket-low q (field row 0) (field row (second q)) (field row 2)
 pub told-row-low : (q : Question) (row : Row) (b : ℕ) → b ≡ bucketOfRow q row → b < buckets
 told-row-low q row b e = rw e (row-low q row)
 
+-- ---- the questions of an arm `_`, told by their numbers
+-- all but that for the keys
+module _ (P : Question → Type 0) (code : P Question.Code) (name : P Question.Name) (document : P Question.Document) (version : P Question.Version) (other : P Question.OtherKey) where
+  not-keys : (q : Question) → OneOf (0 ∷ 1 ∷ 2 ∷ 3 ∷ 5 ∷ []) (tagOf the-type q) → P q
+  not-keys Question.Code o = code
+  not-keys Question.Name o = name
+  not-keys Question.Document o = document
+  not-keys Question.Version o = version
+  not-keys Question.KeyElsewhere o = absurd (miss (0 ∷ 1 ∷ 2 ∷ 3 ∷ 5 ∷ []) 4 tt o)
+  not-keys Question.OtherKey o = other
+
+pub other-second : (q : Question) → OneOf (0 ∷ 1 ∷ 2 ∷ 3 ∷ 5 ∷ []) (tagOf the-type q) → 1 ≡ second q
+other-second = not-keys (λ q. 1 ≡ second q) refl refl refl refl refl
+
+pub other-kept : (q : Question) (a c : List ℕ) (row : Row) → OneOf (0 ∷ 1 ∷ 2 ∷ 3 ∷ 5 ∷ []) (tagOf the-type q) → true ≡ keepsRow q a c row
+unfolding keepsRow
+other-kept q a c row = not-keys (λ q. true ≡ keepsRow q a c row) refl refl refl refl refl q
+
+pub other-bucket : (q : Question) (a b c : List ℕ) → OneOf (2 ∷ 3 ∷ 5 ∷ []) (tagOf the-type q) → 0 ≡ bucketOf q a b c
+unfolding bucketOf
+other-bucket Question.Code a b c o = absurd (miss (2 ∷ 3 ∷ 5 ∷ []) 0 tt o)
+other-bucket Question.Name a b c o = absurd (miss (2 ∷ 3 ∷ 5 ∷ []) 1 tt o)
+other-bucket Question.Document a b c o = refl
+other-bucket Question.Version a b c o = refl
+other-bucket Question.KeyElsewhere a b c o = absurd (miss (2 ∷ 3 ∷ 5 ∷ []) 4 tt o)
+other-bucket Question.OtherKey a b c o = refl
+
 -- ---- the bucket of the values, by the question
 module _ (q : Question) (a b c : List ℕ) where
-  pub once-bucket : (k : Question) → q ≡ k → (r : ℕ) → r ≡ bucketOf k a b c → r ≡ bucketOf q a b c
-  once-bucket k e r f = rw e f
-
   pub key-bucket : q ≡ Question.KeyElsewhere → (h : ℕ) → h ≡ hashFrom 0 b → (r : ℕ) → r ≡ bucketAt h → r ≡ bucketOf q a b c
   unfolding bucketOf
   key-bucket e h f r m = rw (e, ← f) m

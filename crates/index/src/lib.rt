@@ -55,10 +55,8 @@ fn bucket_of(q: Question, a: &[u8], b: &[u8], c: &[u8]) -> usize
     match q {
         Question::Code => bucket(hash(hash(hash(0, a), b), c)),
         Question::Name => bucket(hash(hash(0, a), b)),
-        Question::Document => 0,
-        Question::Version => 0,
         Question::KeyElsewhere => bucket(hash(0, b)),
-        Question::OtherKey => 0,
+        _ => 0,
     }
 }
 
@@ -67,12 +65,8 @@ fn second(q: Question) -> usize
     ensures { λ r. ⌜ r ≡ second q ⌝ }
 {
     match q {
-        Question::Code => 1,
-        Question::Name => 1,
-        Question::Document => 1,
-        Question::Version => 1,
         Question::KeyElsewhere => 4,
-        Question::OtherKey => 1,
+        _ => 1,
     }
 }
 
@@ -104,12 +98,8 @@ fn keeps(q: Question, line: &[u8], a: &[u8], c: &[u8]) -> bool
     ensures { λ r. ⌜ r ≡ keepsRow q (now (a .entry)) (now (c .entry)) (fieldsOf (now (line .entry))) ⌝ }
 {
     match q {
-        Question::Code => true,
-        Question::Name => true,
-        Question::Document => true,
-        Question::Version => true,
         Question::KeyElsewhere => is_elsewhere(line, a, c),
-        Question::OtherKey => true,
+        _ => true,
     }
 }
 

@@ -73,7 +73,7 @@ fn judge_draft(
     Answer::Findings(total)
 }
 
-// The same, with the rows of the tables indexed before.
+// The same, with the rows of the tables indexed before, for so many elements that ask for them.
 fn judge_served(
     document: &[u8],
     elements: &[u32],
@@ -81,13 +81,14 @@ fn judge_served(
     kind: DocumentType,
     tables: &[u8],
     places: Places,
+    asked: usize,
     codes: &mut [u32],
     names: &mut [u32],
     keys: &mut [u32],
     marks: &mut [u64],
     list: &mut [u32],
 ) -> Answer
-    requires { ⌜ (length (now elements) / 4 ≤ length (now marks)) × (length (now marks) ≤ 16384) × (isLarge (length (now elements) / 4) (length (now tables)) places ≡ true) × (147454 ≤ length (now codes)) × (147454 ≤ length (now names)) × (147454 ≤ length (now keys)) ⌝ }
+    requires { ⌜ (length (now elements) / 4 ≤ length (now marks)) × (length (now marks) ≤ 16384) × (isLarge asked (length (now tables)) places ≡ true) × (147454 ≤ length (now codes)) × (147454 ≤ length (now names)) × (147454 ≤ length (now keys)) ⌝ }
     ensures { λ r. ⌜ (r ≡ answerIn (findingsOf (draft (now (document .entry)) (now (elements .entry)) (now (roles .entry)) kind) (tablesAt (now (tables .entry)) places)) (now (list .entry))) × (now (list .exit) ≡ listIn (findingsOf (draft (now (document .entry)) (now (elements .entry)) (now (roles .entry)) kind) (tablesAt (now (tables .entry)) places)) (now (list .entry))) ⌝ }
 {
     let served = serving::serve(
@@ -124,10 +125,11 @@ fn judge_indexed(
     kind: DocumentType,
     tables: &[u8],
     places: Places,
+    asked: usize,
     marks: &mut [u64],
     list: &mut [u32],
 ) -> Answer
-    requires { ⌜ (length (now elements) / 4 ≤ length (now marks)) × (length (now marks) ≤ 16384) × (isLarge (length (now elements) / 4) (length (now tables)) places ≡ true) ⌝ }
+    requires { ⌜ (length (now elements) / 4 ≤ length (now marks)) × (length (now marks) ≤ 16384) × (isLarge asked (length (now tables)) places ≡ true) ⌝ }
     ensures { λ r. ⌜ (r ≡ answerIn (findingsOf (draft (now (document .entry)) (now (elements .entry)) (now (roles .entry)) kind) (tablesAt (now (tables .entry)) places)) (now (list .entry))) × (now (list .exit) ≡ listIn (findingsOf (draft (now (document .entry)) (now (elements .entry)) (now (roles .entry)) kind) (tablesAt (now (tables .entry)) places)) (now (list .entry))) ⌝ }
 {
     let mut codes = [0u32; 147454];
@@ -140,6 +142,7 @@ fn judge_indexed(
         kind,
         tables,
         places,
+        asked,
         &mut codes,
         &mut names,
         &mut keys,
@@ -162,8 +165,19 @@ fn judge_by_size(
     requires { ⌜ (length (now elements) / 4 ≤ length (now marks)) × (length (now marks) ≤ 16384) ⌝ }
     ensures { λ r. ⌜ (r ≡ answerIn (findingsOf (draft (now (document .entry)) (now (elements .entry)) (now (roles .entry)) kind) (tablesAt (now (tables .entry)) places)) (now (list .entry))) × (now (list .exit) ≡ listIn (findingsOf (draft (now (document .entry)) (now (elements .entry)) (now (roles .entry)) kind) (tablesAt (now (tables .entry)) places)) (now (list .entry))) ⌝ }
 {
-    if serving::is_large(elements.len() / 4, tables.len(), places) {
-        return judge_indexed(document, elements, roles, kind, tables, places, marks, list);
+    let asked = serving::how_many_ask(roles);
+    if serving::is_large(asked, tables.len(), places) {
+        return judge_indexed(
+            document,
+            elements,
+            roles,
+            kind,
+            tables,
+            places,
+            asked,
+            marks,
+            list,
+        );
     }
     let none = &elements[0..0];
     judge_draft(
@@ -189,12 +203,12 @@ fn judge_typed(
     tables: &[u8],
     places: Places,
     roles: &mut [u8],
+    marks: &mut [u64],
     list: &mut [u32],
 ) -> Answer
-    requires { ⌜ (length (now elements) / 4 ≤ length (now roles)) × (length (now elements) / 4 ≤ 16384) ⌝ }
+    requires { ⌜ (length (now elements) / 4 ≤ length (now roles)) × (length (now elements) / 4 ≤ length (now marks)) × (length (now marks) ≤ 16384) ⌝ }
     ensures { λ r. ⌜ (r ≡ answerIn (findingsOf (draftAs kind (now (document .entry)) (now (elements .entry))) (tablesAt (now (tables .entry)) places)) (now (list .entry))) × (now (list .exit) ≡ listIn (findingsOf (draftAs kind (now (document .entry)) (now (elements .entry))) (tablesAt (now (tables .entry)) places)) (now (list .entry))) ⌝ }
 {
-    let mut marks = [0u64; 16384];
     roles::fill(document, elements, kind, roles);
     let count = elements.len() / 4;
     judge_by_size(
@@ -204,7 +218,7 @@ fn judge_typed(
         kind,
         tables,
         places,
-        &mut marks,
+        marks,
         list,
     )
 }
@@ -221,8 +235,49 @@ fn type_in(document: &[u8], elements: &[u32], roles: &mut [u8]) -> DocumentType
     header::type_of(document, elements, plain, DocumentType::Neither, header)
 }
 
-// The findings of a document that was read, with this element table.
-fn judge(
+// The findings of a document that was read, with this element table and room for the roles and marks of its elements.
+fn judge_within(
+    document: &[u8],
+    elements: &[u32],
+    tables: &[u8],
+    places: Places,
+    roles: &mut [u8],
+    marks: &mut [u64],
+    list: &mut [u32],
+) -> Answer
+    requires { ⌜ (length (now elements) / 4 ≤ length (now roles)) × (length (now elements) / 4 ≤ length (now marks)) × (length (now marks) ≤ 16384) ⌝ }
+    ensures { λ r. ⌜ (r ≡ answerIn (findingsOf (draftOf (now (document .entry)) (now (elements .entry))) (tablesAt (now (tables .entry)) places)) (now (list .entry))) × (now (list .exit) ≡ listIn (findingsOf (draftOf (now (document .entry)) (now (elements .entry))) (tablesAt (now (tables .entry)) places)) (now (list .entry))) ⌝ }
+{
+    let kind = type_in(document, elements, roles);
+    judge_typed(document, elements, kind, tables, places, roles, marks, list)
+}
+
+// The same of few elements, with room for these: a room has to be cleared.
+fn judge_small(
+    document: &[u8],
+    elements: &[u32],
+    tables: &[u8],
+    places: Places,
+    list: &mut [u32],
+) -> Answer
+    requires { ⌜ length (now elements) / 4 ≤ 512 ⌝ }
+    ensures { λ r. ⌜ (r ≡ answerIn (findingsOf (draftOf (now (document .entry)) (now (elements .entry))) (tablesAt (now (tables .entry)) places)) (now (list .entry))) × (now (list .exit) ≡ listIn (findingsOf (draftOf (now (document .entry)) (now (elements .entry))) (tablesAt (now (tables .entry)) places)) (now (list .entry))) ⌝ }
+{
+    let mut roles = [0u8; 512];
+    let mut marks = [0u64; 512];
+    judge_within(
+        document,
+        elements,
+        tables,
+        places,
+        &mut roles,
+        &mut marks,
+        list,
+    )
+}
+
+// The same of as many elements as there can be.
+fn judge_large(
     document: &[u8],
     elements: &[u32],
     tables: &[u8],
@@ -233,8 +288,33 @@ fn judge(
     ensures { λ r. ⌜ (r ≡ answerIn (findingsOf (draftOf (now (document .entry)) (now (elements .entry))) (tablesAt (now (tables .entry)) places)) (now (list .entry))) × (now (list .exit) ≡ listIn (findingsOf (draftOf (now (document .entry)) (now (elements .entry))) (tablesAt (now (tables .entry)) places)) (now (list .entry))) ⌝ }
 {
     let mut roles = [0u8; 16384];
-    let kind = type_in(document, elements, &mut roles);
-    judge_typed(document, elements, kind, tables, places, &mut roles, list)
+    let mut marks = [0u64; 16384];
+    judge_within(
+        document,
+        elements,
+        tables,
+        places,
+        &mut roles,
+        &mut marks,
+        list,
+    )
+}
+
+// The same with the room that the number of elements asks for.
+fn judge(
+    document: &[u8],
+    elements: &[u32],
+    tables: &[u8],
+    places: Places,
+    list: &mut [u32],
+) -> Answer
+    requires { ⌜ length (now elements) / 4 ≤ 16384 ⌝ }
+    ensures { λ r. ⌜ (r ≡ answerIn (findingsOf (draftOf (now (document .entry)) (now (elements .entry))) (tablesAt (now (tables .entry)) places)) (now (list .entry))) × (now (list .exit) ≡ listIn (findingsOf (draftOf (now (document .entry)) (now (elements .entry))) (tablesAt (now (tables .entry)) places)) (now (list .entry))) ⌝ }
+{
+    if elements.len() / 4 <= 512 {
+        return judge_small(document, elements, tables, places, list);
+    }
+    judge_large(document, elements, tables, places, list)
 }
 
 // The same of tables that were accepted: reads the document, and clears the scratch area once it is not refused.

@@ -10,16 +10,18 @@ use lib.Seq.{take-nil}
 use Rattle.scan.specs.Choice.{not}
 use Rattle.scan.specs.Bytes.{text}
 use Rattle.scan.specs.Lists.{pairs}
+use Rattle.scan.proofs.Tests.{and-false}
 use Rattle.facts.specs.Strings.{equal, withoutSpace}
 use Rattle.markup.specs.Names.{nameEnd}
 use Rattle.pieces.specs.Pieces.{nameAt}
-use Rattle.values.specs.Attributes.{hasOther}
+use Rattle.values.specs.Attributes.{isBare, hasOther}
 use Rattle.values.proofs.Attributes.{empty-name}
+use Rattle.values.proofs.Unlisted.{bare-other}
 use Rattle.paths.specs.declared.DocumentType.{DocumentType}
 use Rattle.paths.specs.declared.Role.the-variants.{Unlisted, Root, Id, Code, Title, EffectiveTime, SetId, VersionNumber, OrganisationId, Telecom, OperationCode}
 use Rattle.paths.specs.Attributes.{attributeTable}
 use Rattle.drafts.specs.Drafts.{Draft, draft, first, is, isKnown, attribute}
-use Rattle.known.specs.Known.{isDocument, hasSchema, isDeclared, rootIsRight, breaks1, breaks2, listedAt, otherThan, breaks3, breaks4}
+use Rattle.known.specs.Known.{isDocument, hasSchema, isDeclared, rootIsRight, breaks1, breaks2, listedAt, otherThan, breaks3, hasSpace, breaks4}
 
 -- ---- the root's name
 name-past : (s : List ℕ) (f : ℕ) → length s ≤ f → nameAt s (f + 1) ≡ []
@@ -173,11 +175,24 @@ module _ (d : Draft) (n : ℕ) where
     unfolding breaks4
     four-unknown f = rw (← e, f)
 
-    module _ (f : a ≡ true) (b : Bool) (g : b ≡ withoutSpace (attribute d n (text "code"))) where
-      pub four-extension : b ≡ true → (r : Bool) → r ≡ withoutSpace (attribute d n (text "extension")) → not r ≡ breaks4 d n
-      unfolding breaks4
-      four-extension h r i = rw (← e, f, ← g, h, i)
+    pub four-known : a ≡ true → (r : Bool) → r ≡ hasSpace d n → r ≡ breaks4 d n
+    unfolding breaks4
+    four-known f r g = g ∙ rw (← e, f)
 
-      pub four-code : b ≡ false → true ≡ breaks4 d n
-      unfolding breaks4
-      four-code h = rw (← e, f, ← g, h)
+    pub three-holds : a ≡ true → (b : Bool) → b ≡ breaks3 d n → b ≡ false → otherThan d n (listedAt d n attributeTable) ≡ false
+    unfolding breaks3
+    three-holds f b g h = sym (sym h ∙ g ∙ rw (← e, f))
+
+  module _ (b : Bool) (g : b ≡ withoutSpace (attribute d n (text "code"))) where
+    pub space-extension : b ≡ true → (r : Bool) → r ≡ withoutSpace (attribute d n (text "extension")) → not r ≡ hasSpace d n
+    space-extension h r i = rw (← g, h, i)
+
+    pub space-code : b ≡ false → true ≡ hasSpace d n
+    space-code h = rw (← g, h)
+
+-- a bare tag has no attribute that is not listed
+pub three-bare : (s rows roles : List ℕ) (t : DocumentType) (n f : ℕ) → f ≡ first (draft s rows roles t) n → (b : Bool) → b ≡ isBare s f → b ≡ true → false ≡ breaks3 (draft s rows roles t) n
+unfolding breaks3 otherThan draft
+three-bare s rows roles t n f e b g h =
+    let d : Draft = draft s rows roles t in
+    sym (rw (bare-other s (first d n) (listedAt d n attributeTable) (rw e at (sym g ∙ h))) (and-false (isKnown d n)))

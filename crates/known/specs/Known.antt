@@ -46,7 +46,9 @@ otherThan d n names = hasOther (d .bytes) (first d n) names
 unfoldable pub breaks3 : Draft → ℕ → Bool
 breaks3 d n = isKnown d n and otherThan d n (listedAt d n attributeTable)
 
+-- the code or the extension of element n has a space
+abbrev pub hasSpace : Draft → ℕ → Bool
+hasSpace d n = not (withoutSpace (attribute d n (text "code")) and withoutSpace (attribute d n (text "extension")))
+
 unfoldable pub breaks4 : Draft → ℕ → Bool
-breaks4 d n =
-    isKnown d n
-    and not (withoutSpace (attribute d n (text "code")) and withoutSpace (attribute d n (text "extension")))
+breaks4 d n = isKnown d n and hasSpace d n

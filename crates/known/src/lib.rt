@@ -1,10 +1,11 @@
 // Procedures 1 to 4: the root, and the elements and attributes that are known.
 ghost use mathlib.Core.Path.{_≡_};
+ghost use mathlib.Core.Bool.{false};
 ghost use mathlib.Core.List.{[], _∷_};
 ghost use lib.ListN.{drop};
 ghost use Rattle.paths.specs.Attributes.{attributeTable};
 ghost use Rattle.drafts.specs.Drafts.{draft};
-ghost use Rattle.known.specs.Known.{isDocument, hasSchema, isDeclared, rootIsRight, breaks1, breaks2, otherThan, listedAt, breaks3, breaks4};
+ghost use Rattle.known.specs.Known.{isDocument, hasSchema, isDeclared, rootIsRight, breaks1, breaks2, otherThan, listedAt, breaks3, hasSpace, breaks4};
 use drafts::attribute_is;
 use drafts::attribute_without_space;
 use drafts::first_byte;
@@ -282,7 +283,7 @@ fn unlisted_at(
     unlisted_at_code(document, elements, roles, kind, n)
 }
 
-// Whether 3 is broken at element n.
+// Whether 3 is broken at element n. Most tags have no attributes, and are asked no further.
 pub fn breaks_3(
     document: &[u8],
     elements: &[u32],
@@ -293,26 +294,68 @@ pub fn breaks_3(
     ensures { λ r. ⌜ r ≡ breaks3 (draft (now (document .entry)) (now (elements .entry)) (now (roles .entry)) kind) n ⌝ }
 {
     if is_known(document, elements, roles, kind, n) {
+        let first = first_byte(document, elements, roles, kind, n);
+        if values::is_bare(document, first) {
+            return false;
+        }
         return unlisted_at(document, elements, roles, kind, n);
     }
     false
 }
 
-// Whether 4 is broken at element n.
-pub fn breaks_4(
+// Whether the code or the extension of element n has a space.
+fn has_space(document: &[u8], elements: &[u32], roles: &[u8], kind: DocumentType, n: usize) -> bool
+    ensures { λ r. ⌜ r ≡ hasSpace (draft (now (document .entry)) (now (elements .entry)) (now (roles .entry)) kind) n ⌝ }
+{
+    if attribute_without_space(document, elements, roles, kind, n, b"code") {
+        return !attribute_without_space(document, elements, roles, kind, n, b"extension");
+    }
+    true
+}
+
+// The same of an element without an unlisted attribute: it says nothing in a code or an extension that its role does not list.
+fn has_space_listed(
     document: &[u8],
     elements: &[u32],
     roles: &[u8],
     kind: DocumentType,
     n: usize,
 ) -> bool
+    requires { ⌜ otherThan (draft (now document) (now elements) (now roles) kind) n (listedAt (draft (now document) (now elements) (now roles) kind) n attributeTable) ≡ false ⌝ }
+    ensures { λ r. ⌜ r ≡ hasSpace (draft (now (document .entry)) (now (elements .entry)) (now (roles .entry)) kind) n ⌝ }
+{
+    if is_role(document, elements, roles, kind, n, Role::Id) {
+        return !attribute_without_space(document, elements, roles, kind, n, b"extension");
+    }
+    if is_role(document, elements, roles, kind, n, Role::OrganisationId) {
+        return !attribute_without_space(document, elements, roles, kind, n, b"extension");
+    }
+    if is_role(document, elements, roles, kind, n, Role::Code) {
+        return !attribute_without_space(document, elements, roles, kind, n, b"code");
+    }
+    if is_role(document, elements, roles, kind, n, Role::OperationCode) {
+        return !attribute_without_space(document, elements, roles, kind, n, b"code");
+    }
+    false
+}
+
+// Whether 4 is broken at element n, where it was found out before whether 3 is.
+pub fn breaks_4(
+    document: &[u8],
+    elements: &[u32],
+    roles: &[u8],
+    kind: DocumentType,
+    three: bool,
+    n: usize,
+) -> bool
+    requires { ⌜ three ≡ breaks3 (draft (now document) (now elements) (now roles) kind) n ⌝ }
     ensures { λ r. ⌜ r ≡ breaks4 (draft (now (document .entry)) (now (elements .entry)) (now (roles .entry)) kind) n ⌝ }
 {
     if is_known(document, elements, roles, kind, n) {
-        if attribute_without_space(document, elements, roles, kind, n, b"code") {
-            return !attribute_without_space(document, elements, roles, kind, n, b"extension");
+        if three {
+            return has_space(document, elements, roles, kind, n);
         }
-        return true;
+        return has_space_listed(document, elements, roles, kind, n);
     }
     false
 }

@@ -1,4 +1,4 @@
--- The loop of `field_count`: n fields are passed, and all are right; the next is empty so far, or not.
+-- The loop of `line_at`: n fields are passed, and all are right; the next starts at a place, and is empty so far, or not.
 -- Assumes nothing.
 use mathlib.Core.Path.{_≡_, refl, sym, _∙_}
 use mathlib.Core.Bool.{Bool, true, false}
@@ -6,13 +6,14 @@ use mathlib.Core.List.{List, [], _∷_}
 use Prim.Native.Nat.{ℕ, suc, _+_, _<_, _≤_}
 use native.Mathlib.Nat.{zero-add}
 use native.Mathlib.Omega.{arith}
-use borrow.Author.Tests.{ne-eqb}
-use lib.Dec.{eqb}
+use borrow.Author.Tests.{ne-eqb, le-leb, lt-leb}
+use lib.Dec.{eqb, leb}
 use lib.ListN.{length, drop, getD, drop-of-length-le}
 use Rattle.scan.specs.Choice.{pick, _and_}
 use Rattle.scan.specs.Lists.{every}
 use Rattle.scan.proofs.Within.{drop-here}
-use Rattle.lines.specs.Lines.{Row, other, inFirst, fieldsOf, areFields, fieldCount}
+use Rattle.lines.specs.Lines.{Row, other, lineAt, inFirst, fieldsOf, areFields, fieldCount}
+use Rattle.lines.proofs.Runs.{front, before}
 
 -- a line has a field
 pub some-field : (xs : List ℕ) → 0 < length (fieldsOf xs)
@@ -34,13 +35,6 @@ rest false (f ∷ fs) = every (other 13) f and areFields fs
 abbrev counted : ℕ → Bool → Row → ℕ
 counted n empty fs = pick (rest empty fs) (n + length fs) 0
 
-abbrev pub Counting : List ℕ → ℕ → Bool → ℕ → Type 0
-Counting line n empty i = fieldCount line ≡ counted n empty (fieldsOf (drop i line))
-
-pub starts : (line : List ℕ) → Counting line 0 true 0
-unfolding fieldCount
-starts line = rw (zero-add (length (fieldsOf line)))
-
 returned : (n : ℕ) (empty : Bool) (fs : Row) → counted n empty (inFirst 13 fs) ≡ 0
 unfolding areFields every
 returned n true [] = refl
@@ -54,32 +48,77 @@ longer n b empty [] h r = absurd (omega arith)
 longer n b true (f ∷ fs) h r = rw (ne-eqb b 13 r)
 longer n b false (f ∷ fs) h r = rw (ne-eqb b 13 r)
 
-module _ (line : List ℕ) (n : ℕ) (empty : Bool) (i : ℕ) (l : Counting line n empty i) where
-  module _ (h : i < length line) where
-    pub at-return : getD line i 0 ≡ 13 → 0 ≡ fieldCount line
+-- what is left of the line from i on
+abbrev left : List ℕ → ℕ → List ℕ
+left s i = front (other 10) (drop i s)
+
+module _ (s : List ℕ) (i : ℕ) where
+  left-on : i < length s → (getD s i 0 ≡ 10 → ⊥) → left s i ≡ getD s i 0 ∷ left s (i + 1)
+  unfolding front
+  left-on h e = rw (drop-here s i h, ne-eqb (getD s i 0) 10 e)
+
+  left-feed : i < length s → getD s i 0 ≡ 10 → left s i ≡ []
+  unfolding front
+  left-feed h e = rw (drop-here s i h, e)
+
+  left-end : length s ≤ i → left s i ≡ []
+  unfolding front
+  left-end h = rw (drop-of-length-le s h)
+
+-- the count of the line at `at`, told from i on
+abbrev pub Counting : List ℕ → ℕ → ℕ → ℕ → ℕ → Type 0
+Counting s at n start i = fieldCount (lineAt s at) ≡ counted n (leb i start) (fieldsOf (left s i))
+
+pub starts : (s : List ℕ) (at : ℕ) → Counting s at 0 at at
+unfolding fieldCount
+starts s at = rw (before (other 10) at (drop at s), le-leb at at (omega arith), zero-add (length (fieldsOf (left s at))))
+
+module _ (s : List ℕ) (at n start i : ℕ) (l : Counting s at n start i) where
+  module _ (h : i < length s) where
+    pub at-return : (f : ℕ) → f ≡ 0 → getD s i 0 ≡ 13 → f ≡ fieldCount (lineAt s at)
     unfolding fieldsOf
-    at-return e = sym (l ∙ rw (drop-here line i h, e) (returned n empty (fieldsOf (drop (i + 1) line))))
+    at-return f z e =
+        z ∙ sym (l ∙ rw (left-on s i h (λ p. absurd (omega arith)), e) (returned n (leb i start) (fieldsOf (left s (i + 1)))))
 
-    pub at-tab-empty : getD line i 0 ≡ 9 → empty ≡ true → 0 ≡ fieldCount line
+    pub at-tab-empty : (f : ℕ) → f ≡ 0 → getD s i 0 ≡ 9 → i ≤ start → f ≡ fieldCount (lineAt s at)
     unfolding fieldsOf areFields
-    at-tab-empty e f = sym (l ∙ rw (drop-here line i h, e, f))
+    at-tab-empty f z e g = z ∙ sym (l ∙ rw (left-on s i h (λ p. absurd (omega arith)), e, le-leb i start g))
 
-    pub at-tab : getD line i 0 ≡ 9 → empty ≡ false → Counting line (n + 1) true (i + 1)
+    pub at-tab : getD s i 0 ≡ 9 → start < i → Counting s at (n + 1) (i + 1) (i + 1)
     unfolding fieldsOf every
     at-tab e f =
-        let g : n + suc (length (fieldsOf (drop (i + 1) line))) ≡ n + 1 + length (fieldsOf (drop (i + 1) line)) = omega arith in
-        l ∙ rw (drop-here line i h, e, f, g)
+        let g : n + suc (length (fieldsOf (left s (i + 1)))) ≡ n + 1 + length (fieldsOf (left s (i + 1))) = omega arith in
+        l ∙ rw (left-on s i h (λ p. absurd (omega arith)), e, lt-leb i start f, le-leb (i + 1) (i + 1) (omega arith), g)
 
-    pub at-other : (getD line i 0 ≡ 13 → ⊥) → (getD line i 0 ≡ 9 → ⊥) → Counting line n false (i + 1)
-    unfolding fieldsOf
-    at-other r t =
-        l ∙ rw (drop-here line i h, ne-eqb (getD line i 0) 9 t) (longer n (getD line i 0) empty (fieldsOf (drop (i + 1) line)) (some-field (drop (i + 1) line)) r)
+    module _ (o : start ≤ i) where
+      pub at-other : (getD s i 0 ≡ 10 → ⊥) → (getD s i 0 ≡ 13 → ⊥) → (getD s i 0 ≡ 9 → ⊥) → Counting s at n start (i + 1)
+      unfolding fieldsOf
+      at-other f r t =
+          l ∙ rw (left-on s i h f, ne-eqb (getD s i 0) 9 t, lt-leb (i + 1) start (omega arith))
+          (longer n (getD s i 0) (leb i start) (fieldsOf (left s (i + 1))) (some-field (left s (i + 1))) r)
 
-  module _ (h : length line ≤ i) where
-    pub end-empty : empty ≡ true → 0 ≡ fieldCount line
+      pub at-above : 13 < getD s i 0 → Counting s at n start (i + 1)
+      at-above g = at-other (λ p. absurd (omega arith)) (λ p. absurd (omega arith)) (λ p. absurd (omega arith))
+
+  module _ (h : left s i ≡ []) where
+    last-empty : i ≤ start → 0 ≡ fieldCount (lineAt s at)
     unfolding fieldsOf areFields
-    end-empty f = sym (l ∙ rw (drop-of-length-le line h, f))
+    last-empty f = sym (l ∙ rw (h, le-leb i start f))
 
-    pub end-field : empty ≡ false → n + 1 ≡ fieldCount line
+    last-field : start < i → n + 1 ≡ fieldCount (lineAt s at)
     unfolding fieldsOf areFields every
-    end-field f = sym (l ∙ rw (drop-of-length-le line h, f))
+    last-field f = sym (l ∙ rw (h, lt-leb i start f))
+
+  module _ (h : length s ≤ i) where
+    pub end-empty : i ≤ start → 0 ≡ fieldCount (lineAt s at)
+    end-empty = last-empty (left-end s i h)
+
+    pub end-field : start < i → n + 1 ≡ fieldCount (lineAt s at)
+    end-field = last-field (left-end s i h)
+
+  module _ (h : i < length s) (e : getD s i 0 ≡ 10) where
+    pub feed-empty : i ≤ start → 0 ≡ fieldCount (lineAt s at)
+    feed-empty = last-empty (left-feed s i h e)
+
+    pub feed-field : start < i → n + 1 ≡ fieldCount (lineAt s at)
+    feed-field = last-field (left-feed s i h e)

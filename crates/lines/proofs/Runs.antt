@@ -1,6 +1,6 @@
 -- Up to the next byte of a kind: the loop that looks for it, and what stands before it.
 -- Assumes nothing.
-use mathlib.Core.Path.{_≡_, refl}
+use mathlib.Core.Path.{_≡_, refl, sym, _∙_}
 use mathlib.Core.Bool.{Bool, true, false}
 use mathlib.Core.List.{List, [], _∷_}
 use Prim.Native.Nat.{ℕ, suc, _+_, _-_, _*_, _<_, _≤_, _^_}
@@ -21,6 +21,14 @@ module _ (s : List ℕ) (at b i : ℕ) (l : Run (other b) s at i) (h : i < lengt
 
   pub until-on : (getD s i 0 ≡ b → ⊥) → Run (other b) s at (i + 1)
   until-on e = run-goes (other b) s at i l true h (rw (ne-eqb (getD s i 0) b e)) refl
+
+-- a line goes on behind a byte above all that part it
+pub line-on : (s : List ℕ) (at i : ℕ) → Run (other 10) s at i → i < length s → 13 < getD s i 0 → Run (other 10) s at (i + 1)
+line-on s at i l h g = until-on s at 10 i l h (λ p. absurd (omega arith))
+
+-- its end is that told from a place in it
+pub line-same : (s : List ℕ) (at i e : ℕ) → Run (other 10) s at i → e ≡ lineEnd s i → e ≡ lineEnd s at
+line-same s at i e l q = q ∙ sym l
 
 -- the place lies ahead, and within where the search starts within
 pub ahead : (b : ℕ) (s : List ℕ) (i e : ℕ) → e ≡ runFrom (other b) s i → i ≤ e

@@ -1,7 +1,13 @@
 // The lines of the tables file, and the fields of a line, as parts of its bytes.
 ghost use mathlib.Core.Path.{_≡_};
 ghost use Rattle.scan.specs.Lists.{runFrom};
-ghost use Rattle.lines.specs.Lines.{other, lineEnd, field, fieldsOf, fieldCount, fieldStart};
+ghost use Rattle.lines.specs.Lines.{other, lineEnd, lineAt, field, fieldsOf, fieldCount, fieldStart};
+
+// A line: the place of its line feed or the length, and the number of its fields, or 0 where one is empty or has a carriage return.
+pub struct Line {
+    pub end: usize,
+    pub fields: usize,
+}
 
 // The place of the next byte b from `at` on, or the length.
 fn until(s: &[u8], at: usize, b: u8) -> usize
@@ -24,33 +30,53 @@ pub fn line_end(s: &[u8], at: usize) -> usize
     until(s, at, b'\n')
 }
 
-// The number of a line's fields, or 0 where one is empty or has a carriage return.
-pub fn field_count(line: &[u8]) -> usize
-    ensures { λ r. ⌜ r ≡ fieldCount (now (line .entry)) ⌝ }
+// A line that has a bad field, from a place in it on: only its end is looked for.
+fn no_fields(s: &[u8], at: usize) -> Line
+    ensures { λ r. ⌜ (r .end ≡ lineEnd (now (s .entry)) at) × (r .fields ≡ 0) ⌝ }
+{
+    Line {
+        end: line_end(s, at),
+        fields: 0,
+    }
+}
+
+// The line at `at`, walked once: most bytes pass with one test, since tab, line feed and carriage return are all below 14.
+pub fn line_at(s: &[u8], at: usize) -> Line
+    ensures { λ r. ⌜ (r .end ≡ lineEnd (now (s .entry)) at) × (r .fields ≡ fieldCount (lineAt (now (s .entry)) at)) ⌝ }
 {
     let mut n = 0;
-    let mut empty = true;
-    let mut i = 0;
-    while i < line.len() {
-        if line[i] == b'\r' {
-            return 0;
-        }
-        if line[i] == b'\t' {
-            if empty {
-                return 0;
-            }
-            n += 1;
-            empty = true;
+    let mut start = at;
+    let mut i = at;
+    while i < s.len() {
+        let b = s[i];
+        if 13 < b {
             i += 1;
             continue;
         }
-        empty = false;
+        if b == b'\n' {
+            break;
+        }
+        if b == b'\r' {
+            return no_fields(s, i);
+        }
+        if b == b'\t' {
+            if i <= start {
+                return no_fields(s, i);
+            }
+            n += 1;
+            i += 1;
+            start = i;
+            continue;
+        }
         i += 1;
     }
-    if empty {
-        return 0;
+    if i <= start {
+        return Line { end: i, fields: 0 };
     }
-    n + 1
+    Line {
+        end: i,
+        fields: n + 1,
+    }
 }
 
 // Where the field of number k starts, or the end of the line.

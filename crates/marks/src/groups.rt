@@ -464,9 +464,9 @@ fn mark_known(
 ) -> u64
     ensures { λ r. ⌜ r ≡ markOnto (broken (draft (now (document .entry)) (now (elements .entry)) (now (roles .entry)) kind) header (tablesAt (now (tables .entry)) places)) n 1 4 m ⌝ }
 {
-    let broken4 = known::breaks_4(document, elements, roles, kind, n);
-    let mark4 = push(m, broken4);
     let broken3 = known::breaks_3(document, elements, roles, kind, n);
+    let broken4 = known::breaks_4(document, elements, roles, kind, broken3, n);
+    let mark4 = push(m, broken4);
     let mark3 = push(mark4, broken3);
     let broken2 = known::breaks_2(document, elements, roles, kind, n);
     let mark2 = push(mark3, broken2);
@@ -475,7 +475,7 @@ fn mark_known(
 }
 
 // The mark of element n, where it was found out before whether `entity` is the entity of an establishment.
-pub fn mark(
+fn mark(
     document: &[u8],
     elements: &[u32],
     roles: &[u8],

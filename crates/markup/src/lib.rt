@@ -32,24 +32,28 @@ pub fn is_space(b: u8) -> bool
     b == 32
 }
 
+// Small letters, which are the most, are asked for first, here and where a name goes on.
 pub fn is_name_start(b: u8) -> bool
     ensures { λ r. ⌜ r ≡ isNameStart b ⌝ }
 {
+    if 96 < b {
+        return b < 123;
+    }
     if b < 65 {
         return b == 58;
     }
     if b < 91 {
         return true;
     }
-    if b < 97 {
-        return b == 95;
-    }
-    b < 123
+    b == 95
 }
 
 pub fn is_name_char(b: u8) -> bool
     ensures { λ r. ⌜ r ≡ isNameChar b ⌝ }
 {
+    if 96 < b {
+        return b < 123;
+    }
     if b < 48 {
         if b < 45 {
             return false;

@@ -1,9 +1,10 @@
 -- 16 to 18: the DUNS number and the name of an organisation. One law for each branch of the code.
 -- Assumes nothing.
-use mathlib.Core.Path.{_≡_, _∙_}
+use mathlib.Core.Path.{_≡_, sym, _∙_}
 use mathlib.Core.Bool.{Bool, true, false}
 use Prim.Native.Nat.{ℕ}
 use Rattle.scan.specs.Choice.{not}
+use Rattle.scan.proofs.Tests.{and-true, and-false}
 use Rattle.scan.specs.declared.Found.{Found}
 use Rattle.scan.specs.declared.Found.the-variants.{At, Nothing}
 use Rattle.paths.specs.declared.Role.the-variants.{OrganisationName}
@@ -44,14 +45,18 @@ module _ (d : Draft) (n : ℕ) (a : Bool) (e : a ≡ isOrganisation d n) where
   unfolding breaks17
   wrong-names f r g = rw (← e, f, g)
 
-  module _ (f : a ≡ false) (b : Bool) (g : b ≡ isName d n) where
-    pub wrong-name : b ≡ true → (r : Bool) → r ≡ isSaid d n → not r ≡ breaks17 d n
-    unfolding breaks17
-    wrong-name h r l = rw (← e, f, ← g, h, l)
+  pub neither : a ≡ false → (b : Bool) → b ≡ is d OrganisationName n → b ≡ false → false ≡ breaks17 d n
+  unfolding breaks17 isName
+  neither f b g h = rw (← e, f, ← g, h)
 
-    pub neither : b ≡ false → false ≡ breaks17 d n
+  module _ (f : a ≡ false) (b : Bool) (g : b ≡ isSaid d n) where
+    pub said-name : b ≡ true → false ≡ breaks17 d n
     unfolding breaks17
-    neither h = rw (← e, f, ← g, h)
+    said-name h = rw (← e, f, ← g, h) (sym (and-false (isName d n)))
+
+    pub empty-name : b ≡ false → (r : Bool) → r ≡ isName d n → r ≡ breaks17 d n
+    unfolding breaks17
+    empty-name h r l = l ∙ rw (← e, f, ← g, h) (sym (and-true (isName d n)))
 
 -- ---- 18
 module _ (d : Draft) (p n : ℕ) (x : Found) (h : x ≡ dunsId d p) where

@@ -308,6 +308,7 @@ fn is_name(document: &[u8], elements: &[u32], roles: &[u8], kind: DocumentType, 
 }
 
 // Whether element n breaks 17: a wrong number is found at the organisation, an empty name at the name.
+// Few elements are names, and few names are empty: whose name it is, the dearest question, is asked last.
 pub fn breaks_17(
     document: &[u8],
     elements: &[u32],
@@ -320,10 +321,13 @@ pub fn breaks_17(
     if is_organisation(document, elements, roles, kind, n) {
         return !has_one(document, elements, roles, kind, n, Role::OrganisationName);
     }
-    if is_name(document, elements, roles, kind, n) {
-        return !is_said(document, elements, roles, kind, n);
+    if !is_role(document, elements, roles, kind, n, Role::OrganisationName) {
+        return false;
     }
-    false
+    if is_said(document, elements, roles, kind, n) {
+        return false;
+    }
+    is_name(document, elements, roles, kind, n)
 }
 
 // What 18 demands for the name n of an organisation: the row of the register with the extension of its one id and this name.

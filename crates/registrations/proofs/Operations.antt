@@ -1,9 +1,10 @@
 -- Operation codes, 33 to 36: one law for each branch of the code.
 -- Assumes nothing.
-use mathlib.Core.Path.{_≡_, _∙_}
+use mathlib.Core.Path.{_≡_, sym, _∙_}
 use mathlib.Core.Bool.{Bool, true, false}
 use Prim.Native.Nat.{ℕ}
 use Rattle.scan.specs.Choice.{not}
+use Rattle.scan.proofs.Tests.{and-true, and-false}
 use Rattle.scan.specs.Bytes.{text}
 use Rattle.scan.specs.declared.Found.{Found}
 use Rattle.scan.specs.declared.Found.the-variants.{At, Nothing}
@@ -80,33 +81,35 @@ module _ (d : Draft) (n : ℕ) (a : Bool) (e : a ≡ is d Establishment n) where
   unfolding breaks36
   other-36 f = rw (← e, f)
 
-  module _ (f : a ≡ true) (b : Bool) (g : b ≡ addressHolds d n) where
-    pub address-35 : b ≡ false → false ≡ breaks35 d n
+  module _ (f : a ≡ true) (b : Bool) (g : b ≡ inUsa d n) where
+    pub usa-35 : b ≡ true → false ≡ breaks35 d n
     unfolding breaks35
-    address-35 h = rw (← e, f, ← g, h)
+    usa-35 h = rw (← e, f, ← g, h) (sym (and-false (addressHolds d n)))
 
-    pub address-36 : b ≡ false → false ≡ breaks36 d n
+    pub abroad-36 : b ≡ false → false ≡ breaks36 d n
     unfolding breaks36
-    address-36 h = rw (← e, f, ← g, h)
+    abroad-36 h = rw (← e, f, ← g, h) (sym (and-false (addressHolds d n)))
 
-    module _ (h : b ≡ true) (c : Bool) (i : c ≡ inUsa d n) where
-      pub usa-35 : c ≡ true → false ≡ breaks35 d n
-      unfolding breaks35
-      usa-35 j = rw (← e, f, ← g, h, ← i, j)
+    module _ (s : Bool) (i : s ≡ isEmpty (chosen d (wanted OperationCode 4 Agent) n)) where
+      module _ (h : b ≡ false) where
+        pub agent-35 : s ≡ false → false ≡ breaks35 d n
+        unfolding breaks35
+        agent-35 j = rw (← e, f, ← g, h, ← i, j) (sym (and-false (addressHolds d n)))
 
-      pub abroad-36 : c ≡ false → false ≡ breaks36 d n
-      unfolding breaks36
-      abroad-36 j = rw (← e, f, ← g, h, ← i, j)
+        pub address-35 : s ≡ true → (r : Bool) → r ≡ addressHolds d n → r ≡ breaks35 d n
+        unfolding breaks35
+        address-35 j r k = k ∙ rw (← e, f, ← g, h, ← i, j) (sym (and-true (addressHolds d n)))
 
-      pub agent-35 : c ≡ false → (r : Bool) → r ≡ isEmpty (chosen d (wanted OperationCode 4 Agent) n) → r ≡ breaks35 d n
-      unfolding breaks35
-      agent-35 j r k = k ∙ rw (← e, f, ← g, h, ← i, j)
-
-      module _ (j : c ≡ true) (s : Bool) (k : s ≡ isEmpty (chosen d (wanted OperationCode 4 Agent) n)) where
-        pub agent-36 : s ≡ false → true ≡ breaks36 d n
+      module _ (h : b ≡ true) where
+        pub agent-36 : s ≡ false → (r : Bool) → r ≡ addressHolds d n → r ≡ breaks36 d n
         unfolding breaks36
-        agent-36 l = rw (← e, f, ← g, h, ← i, j, ← k, l)
+        agent-36 j r k = k ∙ rw (← e, f, ← g, h, ← i, j) (sym (and-true (addressHolds d n)))
 
-        pub import-36 : s ≡ true → (r : Bool) → r ≡ isEmpty (chosen d (wanted OperationCode 4 Import) n) → not r ≡ breaks36 d n
-        unfolding breaks36
-        import-36 l r m = rw (← e, f, ← g, h, ← i, j, ← k, l, ← m)
+        module _ (j : s ≡ true) (t : Bool) (k : t ≡ isEmpty (chosen d (wanted OperationCode 4 Import) n)) where
+          pub import-36 : t ≡ false → (r : Bool) → r ≡ addressHolds d n → r ≡ breaks36 d n
+          unfolding breaks36
+          import-36 l r m = m ∙ rw (← e, f, ← g, h, ← i, j, ← k, l) (sym (and-true (addressHolds d n)))
+
+          pub neither-36 : t ≡ true → false ≡ breaks36 d n
+          unfolding breaks36
+          neither-36 l = rw (← e, f, ← g, h, ← i, j, ← k, l) (sym (and-false (addressHolds d n)))

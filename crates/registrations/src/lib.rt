@@ -145,6 +145,7 @@ fn in_usa(document: &[u8], elements: &[u32], roles: &[u8], kind: DocumentType, n
 }
 
 // Whether 35 is broken at element n.
+// The country mostly decides; whether 24 holds is the dearest question and asked last.
 pub fn breaks_35(
     document: &[u8],
     elements: &[u32],
@@ -157,9 +158,6 @@ pub fn breaks_35(
     if !is_role(document, elements, roles, kind, n, Role::Establishment) {
         return false;
     }
-    if !address_holds(document, elements, roles, kind, n) {
-        return false;
-    }
     if in_usa(document, elements, roles, kind, n) {
         return false;
     }
@@ -168,10 +166,14 @@ pub fn breaks_35(
         levels: 4,
         test: Test::Agent,
     };
-    none(document, elements, roles, kind, agent, n)
+    if !none(document, elements, roles, kind, agent, n) {
+        return false;
+    }
+    address_holds(document, elements, roles, kind, n)
 }
 
 // Whether 36 is broken at element n.
+// The country and the codes mostly decide; whether 24 holds is the dearest question and asked last.
 pub fn breaks_36(
     document: &[u8],
     elements: &[u32],
@@ -184,9 +186,6 @@ pub fn breaks_36(
     if !is_role(document, elements, roles, kind, n, Role::Establishment) {
         return false;
     }
-    if !address_holds(document, elements, roles, kind, n) {
-        return false;
-    }
     if !in_usa(document, elements, roles, kind, n) {
         return false;
     }
@@ -196,14 +195,17 @@ pub fn breaks_36(
         test: Test::Agent,
     };
     if !none(document, elements, roles, kind, agent, n) {
-        return true;
+        return address_holds(document, elements, roles, kind, n);
     }
     let import = Wanted {
         role: Role::OperationCode,
         levels: 4,
         test: Test::Import,
     };
-    !none(document, elements, roles, kind, import, n)
+    if !none(document, elements, roles, kind, import, n) {
+        return address_holds(document, elements, roles, kind, n);
+    }
+    false
 }
 
 // Whether element n is the entity of an establishment.

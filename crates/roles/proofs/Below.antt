@@ -13,6 +13,7 @@ use Rattle.elements.specs.Elements.{parentOf}
 use Rattle.paths.specs.declared.DocumentType.{DocumentType}
 use Rattle.paths.specs.declared.Role.{Role}
 use Rattle.paths.specs.declared.Role.the-variants.{Unknown}
+use Rattle.paths.specs.Roles.{roleNumber}
 use Rattle.paths.specs.Paths.{childRole, roleOf}
 use Rattle.paths.proofs.Walks.{row-late, row-there, name-below, role-none, role-child}
 
@@ -23,6 +24,14 @@ module _ (s rows : List ℕ) (t : DocumentType) (n : ℕ) (h : n < length rows /
   module _ (g : p < n) (f : ℕ) (i : f ≡ getD rows (4 * n + 2) 0) where
     pub below-past : length s ≤ f → Unknown ≡ roleOf s rows t n
     below-past j = role-none s rows t n z (ltb f (length s)) (row-there s rows n h p q g f i) (le-ltb f (length s) j)
+
+    -- a parent that is not known has no known children
+    pub below-unknown : f < length s → (a : Role) → a ≡ roleOf s rows t (parentOf rows n) → (m : ℕ) → m ≡ roleNumber a → m < 2 → Unknown ≡ roleOf s rows t n
+    unfolding childRole
+    below-unknown j a k m u v =
+        let w : roleNumber a ≤ 1 = omega arith in
+        role-child s rows t n z (ltb f (length s)) (row-there s rows n h p q g f i) (lt-ltb f (length s) j) p q a Unknown
+        (k ∙ ap (roleOf s rows t) (sym q)) (rw (le-ltb 1 (roleNumber a) w))
 
     pub below-named : f < length s → (a : Role) → a ≡ roleOf s rows t (parentOf rows n) → (e : ℕ) → e ≡ nameEnd s (f + 1) → (r : Role) → r ≡ childRole t a (take (e - (f + 1)) (drop (f + 1) s)) → r ≡ roleOf s rows t n
     below-named j a k e l r m =

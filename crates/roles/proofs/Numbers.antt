@@ -2,21 +2,21 @@
 -- Assumes nothing.
 use mathlib.Core.Path.{_≡_, refl, sym, _∙_, ap}
 use mathlib.Core.Bool.{true}
-use mathlib.Core.List.{List, _++_}
-use Prim.Native.Nat.{ℕ, zero, suc, _+_, _/_, _<_, _≤_}
+use mathlib.Core.List.{List, [], _∷_, _++_}
+use Prim.Native.Nat.{ℕ, zero, suc, _+_, _-_, _/_, _<_, _≤_}
 use native.Mathlib.Numerals.{add-one}
 use native.Mathlib.Nat.{zero-add}
 use native.Mathlib.Omega.{arith}
 use lib.ListN.{length, take, drop, getD, set, drop-of-length-le, List·getD-append}
 use lib.Dec.{ltb}
 use borrow.Author.Tests.{ltb-true}
-use lib.Seq.{paste-suc, take-all, take-append-seam}
+use lib.Seq.{paste-suc, take-all, take-append-seam, getD-take, take-at, length-take-le}
 use Rattle.paths.specs.declared.DocumentType.{DocumentType}
 use Rattle.paths.specs.declared.Role.{Role}
 use Rattle.paths.specs.declared.Role.the-variants.{Unknown, Unlisted, Root, Id, Code, Title, Br, EffectiveTime, SetId, VersionNumber, Author, Component, StructuredBody, Time, Entity1, Labeler, Entity2, Registrant, Entity3, Establishment, Entity4, Agent, OrganisationId, OrganisationName, ContactParty, ContactPerson, PersonName, Addr, StreetAddressLine, City, State, PostalCode, Country, Telecom, Performance, ActDefinition, OperationCode}
 use Rattle.paths.specs.Roles.{roleNumber}
 use Rattle.paths.specs.Paths.{roleOf}
-use Rattle.roles.specs.Roles.{rolesFrom, rolesOf, filled}
+use Rattle.roles.specs.Roles.{allRoles, roleIn, numberedRole, rolesFrom, rolesOf, filled}
 
 -- a role's number is small
 small : (r : Role) → ltb (roleNumber r) 37 ≡ true
@@ -62,6 +62,59 @@ small OperationCode = refl
 pub number-low : (r : Role) (n : ℕ) → n ≡ roleNumber r → n < 37
 number-low r n e = rw e (ltb-true (roleNumber r) 37 (small r))
 
+-- ---- the role of a number
+pub numbered : (k : ℕ) (r : Role) → r ≡ numberedRole k → (n : ℕ) → n ≡ k → r ≡ numberedRole n
+numbered k r e n f = e ∙ ap numberedRole (sym f)
+
+past : (rs : List Role) (m : ℕ) → length rs ≤ m → Unknown ≡ roleIn rs m
+unfolding roleIn
+past [] m g = refl
+past (r ∷ rs) zero g = absurd (omega arith)
+past (r ∷ rs) (suc m) g = past rs m (omega arith)
+
+pub none-numbered : (n : ℕ) → 37 ≤ n → Unknown ≡ numberedRole n
+none-numbered n h = past allRoles n h
+
+number-role : (r : Role) → r ≡ numberedRole (roleNumber r)
+unfolding roleIn
+number-role Unknown = refl
+number-role Unlisted = refl
+number-role Root = refl
+number-role Id = refl
+number-role Code = refl
+number-role Title = refl
+number-role Br = refl
+number-role EffectiveTime = refl
+number-role SetId = refl
+number-role VersionNumber = refl
+number-role Author = refl
+number-role Component = refl
+number-role StructuredBody = refl
+number-role Time = refl
+number-role Entity1 = refl
+number-role Labeler = refl
+number-role Entity2 = refl
+number-role Registrant = refl
+number-role Entity3 = refl
+number-role Establishment = refl
+number-role Entity4 = refl
+number-role Agent = refl
+number-role OrganisationId = refl
+number-role OrganisationName = refl
+number-role ContactParty = refl
+number-role ContactPerson = refl
+number-role PersonName = refl
+number-role Addr = refl
+number-role StreetAddressLine = refl
+number-role City = refl
+number-role State = refl
+number-role PostalCode = refl
+number-role Country = refl
+number-role Telecom = refl
+number-role Performance = refl
+number-role ActDefinition = refl
+number-role OperationCode = refl
+
 module _ (s rows : List ℕ) (t : DocumentType) where
   length-from : (k m : ℕ) → length (rolesFrom s rows t k m) ≡ m
   unfolding rolesFrom
@@ -91,6 +144,12 @@ module _ (s rows : List ℕ) (t : DocumentType) where
   pub number-told : (k : ℕ) (r : Role) → r ≡ roleOf s rows t k → (n : ℕ) → n ≡ roleNumber r → n ≡ roleNumber (roleOf s rows t k)
   number-told k r e n f = f ∙ ap roleNumber e
 
+  -- a number that is stored says the role
+  pub role-stored : (stored : List ℕ) → length stored ≤ length rows / 4 → stored ≡ take (length stored) (rolesOf s rows t) → (n : ℕ) → n < length stored → (b : ℕ) → b ≡ getD stored n 0 → (r : Role) → r ≡ numberedRole b → r ≡ roleOf s rows t n
+  role-stored stored l e n h b g r f =
+      let q : getD stored n 0 ≡ roleNumber (roleOf s rows t n) = ap (λ (x : List ℕ). getD x n 0) e ∙ getD-take (length stored) (rolesOf s rows t) n 0 h ∙ roles-at n (omega arith) in
+      f ∙ ap numberedRole (g ∙ q) ∙ sym (number-role (roleOf s rows t n))
+
   -- ---- the first i numbers are stored, and the rest is as it was
   abbrev pub Stored : List ℕ → List ℕ → ℕ → Type 0
   Stored old new i = new ≡ take i (rolesOf s rows t) ++ drop i old
@@ -100,6 +159,17 @@ module _ (s rows : List ℕ) (t : DocumentType) where
     stored-more n h g l x f =
         let q : x ≡ getD (rolesOf s rows t) i 0 = f ∙ sym (roles-at i (omega arith)) in
         rw (q, e, add-one) (simp zero-add at (paste-suc old 0 (rolesOf s rows t) i 0 (omega arith) (omega (arith, roles-length))))
+
+    -- those numbers, lent
+    module _ (n : ℕ) (h : i < n) (g : n ≤ length rows / 4) (l : n ≤ length old) (w : length new ≡ length old) where
+      pub front-length : length (take (i - 0) new) ≤ length rows / 4
+      front-length = omega (arith, length-take-le (i - 0) new (omega arith))
+
+      pub front-stored : take (i - 0) new ≡ take (length (take (i - 0) new)) (rolesOf s rows t)
+      front-stored =
+          let z : i - 0 ≡ i = omega arith in
+          let f : take i new ≡ take i (rolesOf s rows t) = rw e (take-at (take i (rolesOf s rows t)) (drop i old) i (length-take-le i (rolesOf s rows t) (omega (arith, roles-length)))) in
+          rw (z, length-take-le i new (omega arith)) f
 
     pub stored-all : (n : ℕ) → i ≤ n → n ≤ i → new ≡ take n (rolesOf s rows t) ++ drop n old
     stored-all n h g =

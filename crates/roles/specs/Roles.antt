@@ -4,8 +4,61 @@ use Prim.Native.Nat.{ℕ, zero, suc, _+_, _/_}
 use mathlib.Core.List.{List, [], _∷_, _++_}
 use lib.ListN.{length, take, drop}
 use Rattle.paths.specs.declared.DocumentType.{DocumentType}
+use Rattle.paths.specs.declared.Role.{Role}
+use Rattle.paths.specs.declared.Role.the-variants.{Unknown, Unlisted, Root, Id, Code, Title, Br, EffectiveTime, SetId, VersionNumber, Author, Component, StructuredBody, Time, Entity1, Labeler, Entity2, Registrant, Entity3, Establishment, Entity4, Agent, OrganisationId, OrganisationName, ContactParty, ContactPerson, PersonName, Addr, StreetAddressLine, City, State, PostalCode, Country, Telecom, Performance, ActDefinition, OperationCode}
 use Rattle.paths.specs.Roles.{roleNumber}
 use Rattle.paths.specs.Paths.{roleOf}
+
+-- all roles, each at the place of its number
+abbrev pub allRoles : List Role
+allRoles =
+    Unknown
+    ∷ Unlisted
+    ∷ Root
+    ∷ Id
+    ∷ Code
+    ∷ Title
+    ∷ Br
+    ∷ EffectiveTime
+    ∷ SetId
+    ∷ VersionNumber
+    ∷ Author
+    ∷ Component
+    ∷ StructuredBody
+    ∷ Time
+    ∷ Entity1
+    ∷ Labeler
+    ∷ Entity2
+    ∷ Registrant
+    ∷ Entity3
+    ∷ Establishment
+    ∷ Entity4
+    ∷ Agent
+    ∷ OrganisationId
+    ∷ OrganisationName
+    ∷ ContactParty
+    ∷ ContactPerson
+    ∷ PersonName
+    ∷ Addr
+    ∷ StreetAddressLine
+    ∷ City
+    ∷ State
+    ∷ PostalCode
+    ∷ Country
+    ∷ Telecom
+    ∷ Performance
+    ∷ ActDefinition
+    ∷ OperationCode
+    ∷ []
+
+-- the role of a number, and Unknown of a number that none has
+unfoldable pub roleIn : List Role → ℕ → Role
+roleIn [] n = Unknown
+roleIn (r ∷ rs) zero = r
+roleIn (r ∷ rs) (suc n) = roleIn rs n
+
+abbrev pub numberedRole : ℕ → Role
+numberedRole n = roleIn allRoles n
 
 -- of the elements k, k + 1, .., m of them
 unfoldable pub rolesFrom : List ℕ → List ℕ → DocumentType → ℕ → ℕ → List ℕ

@@ -8,7 +8,7 @@ use Rattle.scan.specs.Unique.{only}
 use Rattle.facts.specs.Strings.{equal}
 use Rattle.lines.specs.Lines.{Row, field, fieldsOf, rowsAt}
 use Rattle.rows.specs.declared.Question.{Question}
-use Rattle.rows.specs.Rows.{someRow, isAsked, isCode, isName, isDocument, isVersion, isKeyElsewhere, isOtherKey}
+use Rattle.rows.specs.Rows.{someRow, isAsked, isDocument, isVersion, isKeyElsewhere, isOtherKey}
 
 abbrev pub Answers : (Row → Bool) → List ℕ → ℕ → ℕ → Bool → Type 0
 Answers q s at count r = r ≡ someRow q (rowsAt s at count)
@@ -25,12 +25,6 @@ pub one-is-asked : (q : Question) (a b c : List ℕ) (row : Row) (r r′ : Bool)
 one-is-asked q a b c row r r′ = only
 
 module _ (s : List ℕ) (at count : ℕ) (r r′ : Bool) (a b c : List ℕ) where
-  pub one-has-code : Answers (isCode a b c) s at count r → Answers (isCode a b c) s at count r′ → r ≡ r′
-  one-has-code = one-some-row (isCode a b c) s at count r r′
-
-  pub one-has-name : Answers (isName a b) s at count r → Answers (isName a b) s at count r′ → r ≡ r′
-  one-has-name = one-some-row (isName a b) s at count r r′
-
   pub one-has-document : Answers (isDocument a) s at count r → Answers (isDocument a) s at count r′ → r ≡ r′
   one-has-document = one-some-row (isDocument a) s at count r r′
 

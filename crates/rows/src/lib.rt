@@ -133,27 +133,6 @@ pub fn some_row(
     false
 }
 
-// Procedures 8 and 34: whether a row of the code list has this code, system and display name, ASCII case ignored in the last.
-pub fn has_code(
-    tables: &[u8],
-    at: usize,
-    count: usize,
-    code: &[u8],
-    system: &[u8],
-    display: &[u8],
-) -> bool
-    ensures { λ r. ⌜ r ≡ someRow (isCode (now (code .entry)) (now (system .entry)) (now (display .entry))) (rowsAt (now (tables .entry)) at count) ⌝ }
-{
-    some_row(Question::Code, tables, at, count, code, system, display)
-}
-
-// Procedure 18: whether a row of the register has this number and name.
-pub fn has_name(tables: &[u8], at: usize, count: usize, number: &[u8], name: &[u8]) -> bool
-    ensures { λ r. ⌜ r ≡ someRow (isName (now (number .entry)) (now (name .entry))) (rowsAt (now (tables .entry)) at count) ⌝ }
-{
-    some_row(Question::Name, tables, at, count, number, name, name)
-}
-
 // Procedure 6: whether a row of the history has this document id.
 pub fn has_document(tables: &[u8], at: usize, count: usize, document: &[u8]) -> bool
     ensures { λ r. ⌜ r ≡ someRow (isDocument (now (document .entry))) (rowsAt (now (tables .entry)) at count) ⌝ }

@@ -62,39 +62,39 @@ module _ (count n : ℕ) (p : Places) where
           unfolding isLarge
           many-rows h = rw (le-leb count 16384 a, le-leb n 1048576 b, le-leb (p .ncodes) 65535 c, le-leb (p .nnames) 65535 e, lt-leb (p .nhistory) 65535 h)
 
-          pub by-product : p .nhistory ≤ 65535 → ltb 4194304 (count * n) ≡ isLarge count n p
+          pub by-product : p .nhistory ≤ 65535 → ltb 8388608 (count * n) ≡ isLarge count n p
           unfolding isLarge
           by-product h = rw (le-leb count 16384 a, le-leb n 1048576 b, le-leb (p .ncodes) 65535 c, le-leb (p .nnames) 65535 e, le-leb (p .nhistory) 65535 h)
 
 -- what a size that is worth it is within
 module _ (count : ℕ) (s : List ℕ) (p : Places) (x : List ℕ) (h : isLarge count (length s) p ≡ true) (l : 147454 ≤ length x) where
-  rest : leb (length s) 1048576 and leb (p .ncodes) 65535 and leb (p .nnames) 65535 and leb (p .nhistory) 65535 and ltb 4194304 (count * length s) ≡ true
+  rest : leb (length s) 1048576 and leb (p .ncodes) 65535 and leb (p .nnames) 65535 and leb (p .nhistory) 65535 and ltb 8388608 (count * length s) ≡ true
   unfolding isLarge
-  rest = and-right (leb count 16384) (leb (length s) 1048576 and leb (p .ncodes) 65535 and leb (p .nnames) 65535 and leb (p .nhistory) 65535 and ltb 4194304 (count * length s)) h
+  rest = and-right (leb count 16384) (leb (length s) 1048576 and leb (p .ncodes) 65535 and leb (p .nnames) 65535 and leb (p .nhistory) 65535 and ltb 8388608 (count * length s)) h
 
-  counts : leb (p .ncodes) 65535 and leb (p .nnames) 65535 and leb (p .nhistory) 65535 and ltb 4194304 (count * length s) ≡ true
-  counts = and-right (leb (length s) 1048576) (leb (p .ncodes) 65535 and leb (p .nnames) 65535 and leb (p .nhistory) 65535 and ltb 4194304 (count * length s)) rest
+  counts : leb (p .ncodes) 65535 and leb (p .nnames) 65535 and leb (p .nhistory) 65535 and ltb 8388608 (count * length s) ≡ true
+  counts = and-right (leb (length s) 1048576) (leb (p .ncodes) 65535 and leb (p .nnames) 65535 and leb (p .nhistory) 65535 and ltb 8388608 (count * length s)) rest
 
-  later : leb (p .nnames) 65535 and leb (p .nhistory) 65535 and ltb 4194304 (count * length s) ≡ true
-  later = and-right (leb (p .ncodes) 65535) (leb (p .nnames) 65535 and leb (p .nhistory) 65535 and ltb 4194304 (count * length s)) counts
+  later : leb (p .nnames) 65535 and leb (p .nhistory) 65535 and ltb 8388608 (count * length s) ≡ true
+  later = and-right (leb (p .ncodes) 65535) (leb (p .nnames) 65535 and leb (p .nhistory) 65535 and ltb 8388608 (count * length s)) counts
 
-  last : leb (p .nhistory) 65535 and ltb 4194304 (count * length s) ≡ true
-  last = and-right (leb (p .nnames) 65535) (leb (p .nhistory) 65535 and ltb 4194304 (count * length s)) later
+  last : leb (p .nhistory) 65535 and ltb 8388608 (count * length s) ≡ true
+  last = and-right (leb (p .nnames) 65535) (leb (p .nhistory) 65535 and ltb 8388608 (count * length s)) later
 
   small : length s ≤ 1048576
-  small = leb-true (length s) 1048576 (and-left (leb (length s) 1048576) (leb (p .ncodes) 65535 and leb (p .nnames) 65535 and leb (p .nhistory) 65535 and ltb 4194304 (count * length s)) rest)
+  small = leb-true (length s) 1048576 (and-left (leb (length s) 1048576) (leb (p .ncodes) 65535 and leb (p .nnames) 65535 and leb (p .nhistory) 65535 and ltb 8388608 (count * length s)) rest)
 
   fits : (n : ℕ) → n ≤ 65535 → Fitting s n x
   fits n g = (omega (arith, l), g, small)
 
   pub codes-fit : Fitting s (p .ncodes) x
-  codes-fit = fits (p .ncodes) (leb-true (p .ncodes) 65535 (and-left (leb (p .ncodes) 65535) (leb (p .nnames) 65535 and leb (p .nhistory) 65535 and ltb 4194304 (count * length s)) counts))
+  codes-fit = fits (p .ncodes) (leb-true (p .ncodes) 65535 (and-left (leb (p .ncodes) 65535) (leb (p .nnames) 65535 and leb (p .nhistory) 65535 and ltb 8388608 (count * length s)) counts))
 
   pub names-fit : Fitting s (p .nnames) x
-  names-fit = fits (p .nnames) (leb-true (p .nnames) 65535 (and-left (leb (p .nnames) 65535) (leb (p .nhistory) 65535 and ltb 4194304 (count * length s)) later))
+  names-fit = fits (p .nnames) (leb-true (p .nnames) 65535 (and-left (leb (p .nnames) 65535) (leb (p .nhistory) 65535 and ltb 8388608 (count * length s)) later))
 
   pub keys-fit : Fitting s (p .nhistory) x
-  keys-fit = fits (p .nhistory) (leb-true (p .nhistory) 65535 (and-left (leb (p .nhistory) 65535) (ltb 4194304 (count * length s)) last))
+  keys-fit = fits (p .nhistory) (leb-true (p .nhistory) 65535 (and-left (leb (p .nhistory) 65535) (ltb 8388608 (count * length s)) last))
 
 pub has-room : (s : List ℕ) (n : ℕ) (x : List ℕ) → Fitting s n x → Room s n x
 has-room s n x f = record { long = f .0; few = omega (arith, f .1); small = omega (arith, f .2) }

@@ -2,22 +2,33 @@
 -- Assumes nothing.
 use Prim.Native.Nat.{ℕ, _+_, _*_, _≤_}
 use mathlib.Core.Bool.{Bool}
-use mathlib.Core.List.{List}
-use lib.Dec.{leb, ltb}
+use mathlib.Core.List.{List, [], _∷_}
+use lib.Dec.{eqb, leb, ltb}
 use lib.ListN.{length}
-use Rattle.scan.specs.Choice.{_and_}
+use Rattle.scan.specs.Choice.{pick, _and_, _or_, between}
 use Rattle.scan.specs.Bytes.{text}
 use Rattle.index.specs.declared.Keys.{Keys}
 use Rattle.index.specs.SetKeys.{keysOf}
+use Rattle.paths.specs.declared.Role.the-variants.{Code, OrganisationId, OrganisationName, OperationCode}
+use Rattle.paths.specs.Roles.{roleNumber}
 use Rattle.drafts.specs.Drafts.{Draft, attribute}
 use Rattle.header.specs.Header.{requestCode}
 use Rattle.answers.specs.declared.Places.{Places}
 
--- the walks along the rows would take longer than an index, and the tables are of a size that is accepted
+-- a role whose elements can ask for a row: codes, and the ids and names of organisations
+unfoldable pub asks : ℕ → Bool
+asks r = eqb r (roleNumber Code) or eqb r (roleNumber OperationCode) or between (roleNumber OrganisationId) (roleNumber OrganisationName) r
+
+-- how many elements can, by the numbers of their roles
+unfoldable pub asking : List ℕ → ℕ
+asking [] = 0
+asking (r ∷ rs) = pick (asks r) (1 + asking rs) (asking rs)
+
+-- so many walks along the rows would take longer than an index, and the tables are of a size that is accepted
 unfoldable pub isLarge : ℕ → ℕ → Places → Bool
 isLarge count n p =
     leb count 16384 and leb n 1048576 and leb (p .ncodes) 65535 and leb (p .nnames) 65535 and leb (p .nhistory) 65535
-    and ltb 4194304 (count * n)
+    and ltb 8388608 (count * n)
 
 -- a run has room for so many rows of the tables
 abbrev pub Fitting : List ℕ → ℕ → List ℕ → Type 0

@@ -6,14 +6,45 @@ ghost use Rattle.drafts.specs.Chosen.{the};
 ghost use Rattle.header.specs.Header.{headerOf};
 ghost use Rattle.answers.specs.Answers.{typeCode, tablesAt};
 ghost use Rattle.answers.specs.Served.{CodesServed, NamesServed, KeysServed, Served};
-ghost use Rattle.serving.specs.Serving.{isLarge, Fitting, toldAt};
+ghost use Rattle.serving.specs.Serving.{asks, asking, isLarge, Fitting, toldAt};
 use answers::Places;
 use drafts::first_byte;
 use paths::DocumentType;
 use rows::Question;
 use scan::Found;
 
-// Whether so many elements are worth an index of these tables, and the runs are long enough for it.
+// Whether the elements of a role can ask for a row.
+fn is_asking(role: u8) -> bool
+    ensures { λ r. ⌜ r ≡ asks role ⌝ }
+{
+    if role < 22 {
+        return role == 4;
+    }
+    if role < 24 {
+        return true;
+    }
+    role == 36
+}
+
+// How many elements can ask for a row, by the numbers of their roles.
+pub fn how_many_ask(roles: &[u8]) -> usize
+    ensures { λ r. ⌜ r ≡ asking (now (roles .entry)) ⌝ }
+{
+    let mut found = 0;
+    let mut i = 0;
+    while i < roles.len() {
+        if is_asking(roles[i]) {
+            found += 1;
+            i += 1;
+            continue;
+        }
+        i += 1;
+    }
+    found
+}
+
+// Whether so many elements that ask are worth an index of these tables, and the runs are long enough for it: for few of them, walks along all
+// rows cost less.
 pub fn is_large(count: usize, length: usize, places: Places) -> bool
     ensures { λ r. ⌜ r ≡ isLarge count length places ⌝ }
 {
@@ -32,7 +63,7 @@ pub fn is_large(count: usize, length: usize, places: Places) -> bool
     if 65535 < places.nhistory {
         return false;
     }
-    4194304 < count * length
+    8388608 < count * length
 }
 
 // The one setId of a draft, or the root.

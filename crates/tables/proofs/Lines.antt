@@ -1,16 +1,16 @@
--- Whether a line is a row, by the number of its fields.
+-- The number of a line's fields, and whether it is a row by that.
 -- Assumes nothing.
 use mathlib.Core.Path.{_≡_, refl, sym, _∙_}
 use mathlib.Core.Bool.{Bool, true, false}
 use mathlib.Core.List.{List}
-use Prim.Native.Nat.{ℕ, _<_, _≤_}
+use Prim.Native.Nat.{ℕ, _-_, _<_, _≤_}
 use native.Mathlib.Omega.{arith}
 use borrow.Author.Tests.{eq-eqb, ne-eqb, le-leb, lt-leb}
 use lib.Dec.{eqb, ltb}
-use lib.ListN.{length}
+use lib.ListN.{length, take, drop}
 use Rattle.scan.specs.Choice.{pick, _and_}
 use Rattle.facts.specs.Numbers.{versionOf}
-use Rattle.lines.specs.Lines.{field, fieldsOf, areFields, fieldCount}
+use Rattle.lines.specs.Lines.{lineEnd, lineAt, field, fieldsOf, areFields, fieldCount}
 use Rattle.tables.specs.declared.Kind.{Kind}
 use Rattle.tables.specs.Accepted.{isOf, isRow}
 
@@ -26,6 +26,10 @@ tested false x m h = refl
 passed : (t x : Bool) (m : ℕ) → pick t m 0 ≡ 5 → x ≡ t and eqb m 5 and x
 passed true x m e = rw (eq-eqb m 5 e)
 passed false x m e = absurd (omega arith)
+
+-- the fields of a line, told of the part that it is
+pub count-of : (s : List ℕ) (i e n : ℕ) → e ≡ lineEnd s i → n ≡ fieldCount (lineAt s i) → n ≡ fieldCount (take (e - i) (drop i s))
+count-of s i e n q f = rw q f
 
 module _ (kind : Kind) (line : List ℕ) where
   pub too-long : 4096 < length line → false ≡ isRow kind line

@@ -1,5 +1,6 @@
 // The tables file: whether it keeps the rules, and where the rows of its three sections stand.
 ghost use mathlib.Core.Path.{_≡_};
+ghost use Rattle.lines.specs.Lines.{fieldCount};
 ghost use Rattle.tables.specs.Accepted.{isRow, countOf, rowsEnd, sectionAt, refusalOf, accepted};
 
 // The three sections.
@@ -44,14 +45,14 @@ pub enum Accepted {
     Refused(usize),
 }
 
-// Whether a line is a row of a section.
-fn is_row(kind: Kind, line: &[u8]) -> bool
+// Whether a line with the field count n is a row of a section.
+fn is_row(kind: Kind, line: &[u8], n: usize) -> bool
+    requires { ⌜ n ≡ fieldCount (now line) ⌝ }
     ensures { λ r. ⌜ r ≡ isRow kind (now (line .entry)) ⌝ }
 {
     if 4096 < line.len() {
         return false;
     }
-    let n = lines::field_count(line);
     match kind {
         Kind::CodeList => n == 3,
         Kind::Register => n == 2,
@@ -100,11 +101,12 @@ fn rows_end(kind: Kind, s: &[u8], at: usize, n: usize) -> Ended
     let mut i = at;
     let mut left = n;
     while 0 < left {
-        let e = lines::line_end(s, i);
+        let line = lines::line_at(s, i);
+        let e = line.end;
         if s.len() <= e {
             return Ended::Refused(s.len());
         }
-        if is_row(kind, &s[i..e]) {
+        if is_row(kind, &s[i..e], line.fields) {
             i = e + 1;
             left -= 1;
             continue;

@@ -63,6 +63,16 @@ module _ (t s : List ℕ) (at : ℕ) (u : Bool) (eu : u ≡ stands t s at) where
     unfolding nameIs
     name-length = rw (← eu, y, ← en)
 
+-- the same of a name whose end is known
+module _ (t s : List ℕ) (at n : ℕ) (en : n ≡ nameEnd s at) where
+  pub as-long : n - at ≡ length t → (u : Bool) → u ≡ stands t s at → u ≡ nameIs t s at
+  unfolding nameIs
+  as-long h u eu = eu ∙ sym (rw (← en, eq-eqb (n - at) (length t) h) (and-true (stands t s at)))
+
+  pub of-other-length : (n - at ≡ length t → ⊥) → false ≡ nameIs t s at
+  unfolding nameIs
+  of-other-length h = sym (rw (← en, ne-eqb (n - at) (length t) h) (and-false (stands t s at)))
+
 -- ---- the name at a position, as the part of s up to its end
 module _ (s : List ℕ) (b e : ℕ) (ee : e ≡ nameEnd s b) where
   pub name-ahead : b ≤ e

@@ -7,6 +7,7 @@ ghost use lib.ListN.{length, drop, take, getD, set};
 ghost use lib.Seq.{sets};
 ghost use Rattle.scan.specs.Choice.{pick, _or_};
 ghost use Rattle.scan.specs.Lists.{runFrom};
+ghost use Rattle.markup.specs.Names.{nameEnd};
 ghost use Rattle.tags.specs.Names.{isElementStart, isElementChar, elementEnd, nameAt, nameIs};
 ghost use Rattle.reader.specs.Limits.{documentLimit, nameLimit, valueLimit};
 ghost use Rattle.tags.specs.Attributes.{attributeAt};
@@ -61,6 +62,9 @@ struct Body {
 fn is_element_start(b: u8) -> bool
     ensures { λ r. ⌜ r ≡ isElementStart b ⌝ }
 {
+    if 96 < b {
+        return b < 123;
+    }
     if b == 58 {
         return false;
     }
@@ -70,6 +74,9 @@ fn is_element_start(b: u8) -> bool
 fn is_element_char(b: u8) -> bool
     ensures { λ r. ⌜ r ≡ isElementChar b ⌝ }
 {
+    if 96 < b {
+        return b < 123;
+    }
     if b == 58 {
         return false;
     }
@@ -110,6 +117,17 @@ pub fn name_is(s: &[u8], at: usize, t: &[u8]) -> bool
 {
     if scan::text_at(s, at, t) {
         return markup::name_end(s, at) - at == t.len();
+    }
+    false
+}
+
+// The same of a name that is known to end at n: most names differ in their length.
+pub fn is_named(s: &[u8], at: usize, n: usize, t: &[u8]) -> bool
+    requires { ⌜ n ≡ nameEnd (now s) at ⌝ }
+    ensures { λ r. ⌜ r ≡ nameIs (now (t .entry)) (now (s .entry)) at ⌝ }
+{
+    if n - at == t.len() {
+        return scan::text_at(s, at, t);
     }
     false
 }

@@ -1,4 +1,5 @@
 pub mod Attributes
+pub mod Unlisted
 pub mod Texts
 pub mod Views
 pub mod Compared

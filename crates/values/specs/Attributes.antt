@@ -25,6 +25,10 @@ unfoldable pub nameAfter : List ℕ → ℕ → ℕ
 nameAfter s first =
     pick (eqb (getD s first 0) (code "<") and ltb (first + 1) (elementEnd s (first + 1))) (elementEnd s (first + 1)) (length s)
 
+-- '>' stands behind the name, so that the tag has no attributes
+unfoldable pub isBare : List ℕ → ℕ → Bool
+isBare s first = eqb (getD s (nameAfter s first) 0) (code ">")
+
 -- the tag's attributes by their positions, and how the tag ends
 abbrev pub tagFrom : List ℕ → ℕ → Row Tag
 tagFrom s first = attributes s (nameAfter s first)

@@ -9,7 +9,7 @@ use Rattle.facts.specs.Strings.{equal}
 use Rattle.references.specs.Decoded.{replaced}
 use Rattle.values.specs.declared.Place.{Place}
 use Rattle.values.specs.declared.View.{View}
-use Rattle.values.specs.Attributes.{attributePlace, hasOther}
+use Rattle.values.specs.Attributes.{isBare, attributePlace, hasOther}
 use Rattle.values.specs.Texts.{textPlace}
 use Rattle.values.specs.Views.{Shows}
 
@@ -18,6 +18,9 @@ attribute-place s first name x y p q = only p q
 
 pub text-place : (s : List ℕ) (first : ℕ) (x y : Place) → x ≡ textPlace s first → y ≡ textPlace s first → x ≡ y
 text-place s first x y p q = only p q
+
+pub is-bare : (s : List ℕ) (first : ℕ) (x y : Bool) → x ≡ isBare s first → y ≡ isBare s first → x ≡ y
+is-bare s first x y p q = only p q
 
 pub has-other-attribute : (s : List ℕ) (first : ℕ) (names : List (List ℕ)) (x y : Bool) → x ≡ hasOther s first names → y ≡ hasOther s first names → x ≡ y
 has-other-attribute s first names x y p q = only p q

@@ -7,11 +7,12 @@ ghost use Rattle.scan.specs.Choice.{_and_, not};
 ghost use Rattle.scan.specs.Lists.{every};
 ghost use Rattle.scan.specs.declared.Found.{Found};
 ghost use Rattle.facts.specs.Strings.{equal};
+ghost use Rattle.markup.specs.Names.{nameEnd};
 ghost use Rattle.chars.specs.Encode.{encoded};
 ghost use Rattle.references.specs.References.{referenceAt};
 ghost use Rattle.references.specs.Decoded.{replaced};
 ghost use Rattle.tags.specs.Rows.{ending};
-ghost use Rattle.values.specs.Attributes.{nameAfter, tagFrom, attributePlace, attributeOf, isListed, hasOther};
+ghost use Rattle.values.specs.Attributes.{nameAfter, isBare, tagFrom, attributePlace, attributeOf, isListed, hasOther};
 ghost use Rattle.values.specs.Texts.{contentOf, contentAt, contentFrom, contentTo, textPlace, saidFrom, textOf};
 ghost use Rattle.values.specs.Views.{isShown, plainOf, seen, InRange, Shows};
 ghost use Rattle.values.specs.Compared.{textBehind};
@@ -58,6 +59,14 @@ fn name_after(s: &[u8], first: usize) -> usize
     n
 }
 
+// Whether the tag that begins at `first` has no attributes, as can be seen behind its name.
+pub fn is_bare(s: &[u8], first: usize) -> bool
+    ensures { λ r. ⌜ r ≡ isBare (now (s .entry)) first ⌝ }
+{
+    let n = name_after(s, first);
+    scan::byte(s, n) == 62
+}
+
 // The raw value of the attribute `name` of the tag that begins at `first`.
 pub fn attribute_place(s: &[u8], first: usize, name: &[u8]) -> Place
     ensures { λ r. ⌜ r ≡ attributePlace (now (s .entry)) first (now (name .entry)) ⌝ }
@@ -66,14 +75,14 @@ pub fn attribute_place(s: &[u8], first: usize, name: &[u8]) -> Place
     while i < s.len() {
         let Part::Read {
             at: b,
-            name_end: _,
+            name_end: n,
             value: v,
             value_end: e,
         } = tags::part_at(s, i)
         else {
             return Place::Nothing;
         };
-        if tags::name_is(s, b, name) {
+        if tags::is_named(s, b, n, name) {
             if e - v <= Reader::VALUE {
                 return Place::At(v, e);
             }
@@ -84,18 +93,19 @@ pub fn attribute_place(s: &[u8], first: usize, name: &[u8]) -> Place
     Place::Nothing
 }
 
-// Whether the attribute at b, whose value has bytes or not, is not empty and has none of three names.
-fn is_other(s: &[u8], b: usize, valued: bool, x: &[u8], y: &[u8], z: &[u8]) -> bool
+// Whether the attribute at b, whose name ends at n and whose value has bytes or not, is not empty and has none of three names.
+fn is_other(s: &[u8], b: usize, n: usize, valued: bool, x: &[u8], y: &[u8], z: &[u8]) -> bool
+    requires { ⌜ n ≡ nameEnd (now s) b ⌝ }
     ensures { λ r. ⌜ r ≡ valued and not (isListed (now (x .entry) ∷ now (y .entry) ∷ now (z .entry) ∷ []) (now (s .entry)) b) ⌝ }
 {
     if valued {
-        if tags::name_is(s, b, x) {
+        if tags::is_named(s, b, n, x) {
             return false;
         }
-        if tags::name_is(s, b, y) {
+        if tags::is_named(s, b, n, y) {
             return false;
         }
-        if tags::name_is(s, b, z) {
+        if tags::is_named(s, b, n, z) {
             return false;
         }
         return true;
@@ -111,14 +121,14 @@ pub fn has_other_attribute(s: &[u8], first: usize, x: &[u8], y: &[u8], z: &[u8])
     while i < s.len() {
         let Part::Read {
             at: b,
-            name_end: _,
+            name_end: n,
             value: v,
             value_end: e,
         } = tags::part_at(s, i)
         else {
             return false;
         };
-        if is_other(s, b, v < e, x, y, z) {
+        if is_other(s, b, n, v < e, x, y, z) {
             return true;
         }
         i = e + 1;

@@ -1,8 +1,8 @@
 -- `contacts::breaks_30` meets its contract.
 -- Assumes nothing.
-use Rattle.contacts.proofs.Parties.{other-30, nobody-30, many-30, person-30}
-use borrow.Author.Needs.{needs}
+use Rattle.contacts.proofs.Parties.{other-30, nobody-30, person-30, only-30}
 use borrow.Author.Tests.{not-true, not-false}
+use borrow.Author.Needs.{needs}
 use Rattle.contacts.proofs.breaks_30.Statement.{statement}
 use Rattle.contacts.proofs.breaks_30.Tie as tie
 
@@ -21,17 +21,17 @@ has-contact-requires c κs = search needs
 returns-2 : tie.Need-returns-2
 returns-2 c = search (nobody-30, not-true, not-false)
 
-is-only-kid-requires : tie.Need-is-only-kid-requires
-is-only-kid-requires c κs = search needs
-
-returns-3 : tie.Need-returns-3
-returns-3 c = search (many-30, not-true, not-false)
-
 person-holds-requires : tie.Need-person-holds-requires
 person-holds-requires c κs = search needs
 
+returns-3 : tie.Need-returns-3
+returns-3 c = search (person-30, not-false)
+
+is-only-kid-requires : tie.Need-is-only-kid-requires
+is-only-kid-requires c κs = search needs
+
 returns-4 : tie.Need-returns-4
-returns-4 c = search (person-30, not-false)
+returns-4 c = search (only-30, not-false)
 
 pub breaks-30-spec : {M : Type 1} → statement M
 breaks-30-spec =
@@ -42,7 +42,7 @@ breaks-30-spec =
     parent-requires
     has-contact-requires
     returns-2
-    is-only-kid-requires
-    returns-3
     person-holds-requires
+    returns-3
+    is-only-kid-requires
     returns-4)

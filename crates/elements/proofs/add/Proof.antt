@@ -1,6 +1,6 @@
 -- `elements::add` meets its contract: past a limit it stops, else a row is added.
 -- Assumes nothing.
-use Rattle.elements.proofs.Steps.{too-many, too-deep, room-left}
+use Rattle.elements.proofs.Steps.{row-fits, too-many, too-deep, room-left}
 use mathlib.Core.Path.{refl}
 use borrow.Author.Needs.{needs}
 use Rattle.elements.proofs.add.Statement.{statement}
@@ -13,7 +13,7 @@ returns-2 : tie.Need-returns-2
 returns-2 c = (search too-deep, refl)
 
 put-row-requires : tie.Need-put-row-requires
-put-row-requires c κs = search needs
+put-row-requires c κs = (search row-fits, search needs, search needs, search needs, search needs)
 
 add-t11 : tie.Need-add-t11
 add-t11 c = search needs

@@ -1,51 +1,26 @@
--- `elements::same_name` meets its contract: a name ends behind its start, and within.
+-- `elements::same_name` meets its contract: the bytes of a name are compared where one starts at the first place.
 -- Assumes nothing.
-use Rattle.elements.proofs.Steps.{name-ahead, name-inside, names-same}
+use Rattle.elements.proofs.Names.{from-start, from-none}
 use borrow.Author.Needs.{needs}
 use Rattle.elements.proofs.same_name.Statement.{statement}
 use Rattle.elements.proofs.same_name.Tie as tie
 
-name-end-requires : tie.Need-name-end-requires
-name-end-requires c κs = search needs
+starts-name-requires : tie.Need-starts-name-requires
+starts-name-requires c κs = search needs
 
-name-end-requires-2 : tie.Need-name-end-requires-2
-name-end-requires-2 c κs = search needs
-
-sub-same : tie.Need-sub-same
-sub-same c = search (name-ahead, name-inside, needs)
-
-part-same-start : tie.Need-part-same-start
-part-same-start c = search (name-ahead, name-inside, needs)
-
-part-same-end : tie.Need-part-same-end
-part-same-end c = search (name-ahead, name-inside, needs)
-
-sub-same-2 : tie.Need-sub-same-2
-sub-same-2 c = search (name-ahead, name-inside, needs)
-
-part-same-start-2 : tie.Need-part-same-start-2
-part-same-start-2 c = search (name-ahead, name-inside, needs)
-
-part-same-end-2 : tie.Need-part-same-end-2
-part-same-end-2 c = search (name-ahead, name-inside, needs)
-
-same-requires : tie.Need-same-requires
-same-requires c κs = search needs
+same-bytes-requires : tie.Need-same-bytes-requires
+same-bytes-requires c κs = search needs
 
 returns : tie.Need-returns
-returns c = search names-same
+returns c = search from-start
+
+starts-name-requires-2 : tie.Need-starts-name-requires-2
+starts-name-requires-2 c κs = search needs
+
+returns-2 : tie.Need-returns-2
+returns-2 c = search from-none
 
 pub same-name-spec : {M : Type 1} → statement M
 same-name-spec =
     tie.close
-    (tie.spec
-    name-end-requires
-    name-end-requires-2
-    sub-same
-    part-same-start
-    part-same-end
-    sub-same-2
-    part-same-start-2
-    part-same-end-2
-    same-requires
-    returns)
+    (tie.spec starts-name-requires same-bytes-requires returns starts-name-requires-2 returns-2)

@@ -1,6 +1,6 @@
 -- `elements::step` meets its contract: each kind of piece is a case of `byPiece`.
 -- Assumes nothing.
-use Rattle.elements.proofs.Steps.{deeper-fits, place-low, top-number-low, after-low, at-end, is-passed, by-start, by-empty, by-end, by-text, by-comment, by-instruction, by-declaration}
+use Rattle.elements.proofs.Steps.{row-room, row-open, deeper-fits, place-low, top-number-low, after-low, at-end, is-passed, by-start, by-empty, by-end, by-text, by-comment, by-instruction, by-declaration}
 use borrow.Author.Needs.{needs}
 use Rattle.elements.proofs.step.Statement.{statement}
 use Rattle.elements.proofs.step.Tie as tie
@@ -12,19 +12,19 @@ add-add : tie.Need-add-add
 add-add c = search deeper-fits
 
 add-requires : tie.Need-add-requires
-add-requires c κs = (search needs, search place-low, search top-number-low, search after-low)
+add-requires c κs = (search row-room, search place-low, search top-number-low, search after-low)
 
 enum-told-2 : tie.Need-enum-told-2
 enum-told-2 c = search needs
 
 add-requires-2 : tie.Need-add-requires-2
-add-requires-2 c κs = (search needs, search place-low, search top-number-low, search after-low)
+add-requires-2 c κs = (search row-room, search place-low, search top-number-low, search after-low)
 
 enum-told-3 : tie.Need-enum-told-3
 enum-told-3 c = search needs
 
 close-requires : tie.Need-close-requires
-close-requires c κs = (search at-end, search needs)
+close-requires c κs = (search at-end, search row-open)
 
 enum-told-4 : tie.Need-enum-told-4
 enum-told-4 c = search needs

@@ -4,6 +4,7 @@ use Prim.Native.Nat.{_-_}
 use mathlib.Core.Path.{_≡_, refl}
 use lib.ListN.{length}
 use borrow.Author.Needs.{needs}
+use Rattle.elements.proofs.Steps.{roomy-kept}
 use Rattle.elements.proofs.Walks.{Told, told-start, open-left, no-root, all-read, piece-refused, steps, step-stopped, told-again, told-less}
 use Rattle.elements.proofs.walk.Statement.{statement}
 use Rattle.elements.proofs.walk.Tie as tie
@@ -42,7 +43,7 @@ returns : tie.Need-returns Inv-loop μ-loop
 returns c = (search piece-refused, search needs)
 
 step-requires : tie.Need-step-requires Inv-loop μ-loop
-step-requires c κs = (search steps, search needs)
+step-requires c κs = (search steps, search roomy-kept)
 
 enum-known-next : tie.Need-enum-known-next Inv-loop μ-loop
 enum-known-next c = search needs

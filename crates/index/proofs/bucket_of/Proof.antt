@@ -1,7 +1,6 @@
 -- `index::bucket_of` meets its contract, question by question.
 -- Assumes nothing.
-use Rattle.index.specs.Hashes.{bucketOf}
-use Rattle.index.proofs.Hashing.{told-low, code-bucket, name-bucket, key-bucket, once-bucket}
+use Rattle.index.proofs.Hashing.{told-low, code-bucket, name-bucket, key-bucket, other-bucket}
 use borrow.Author.Needs.{needs}
 use Rattle.index.proofs.bucket_of.Statement.{statement}
 use Rattle.index.proofs.bucket_of.Tie as tie
@@ -36,20 +35,11 @@ bucket-requires-2 c κs = search (told-low, needs)
 enum-told-3 : tie.Need-enum-told-3
 enum-told-3 c = search needs
 
-enum-told-4 : tie.Need-enum-told-4
-enum-told-4 c = search needs
-
-enum-told-5 : tie.Need-enum-told-5
-enum-told-5 c = search needs
-
 hash-requires-6 : tie.Need-hash-requires-6
 hash-requires-6 c κs = search needs
 
 bucket-requires-3 : tie.Need-bucket-requires-3
 bucket-requires-3 c κs = search (told-low, needs)
-
-enum-told-6 : tie.Need-enum-told-6
-enum-told-6 c = search needs
 
 returns : tie.Need-returns
 returns c = search code-bucket
@@ -58,19 +48,10 @@ returns-2 : tie.Need-returns-2
 returns-2 c = search name-bucket
 
 returns-3 : tie.Need-returns-3
-unfolding bucketOf
-returns-3 c = search once-bucket
+returns-3 c = search key-bucket
 
 returns-4 : tie.Need-returns-4
-unfolding bucketOf
-returns-4 c = search once-bucket
-
-returns-5 : tie.Need-returns-5
-returns-5 c = search key-bucket
-
-returns-6 : tie.Need-returns-6
-unfolding bucketOf
-returns-6 c = search once-bucket
+returns-4 c = other-bucket _ _ _ _ (c .match .keys4)
 
 pub bucket-of-spec : {M : Type 1} → statement M
 bucket-of-spec =
@@ -86,14 +67,9 @@ bucket-of-spec =
     hash-requires-5
     bucket-requires-2
     enum-told-3
-    enum-told-4
-    enum-told-5
     hash-requires-6
     bucket-requires-3
-    enum-told-6
     returns
     returns-2
     returns-3
-    returns-4
-    returns-5
-    returns-6)
+    returns-4)

@@ -5,6 +5,9 @@ use borrow.Author.Needs.{needs}
 use Rattle.judge.proofs.judge_by_size.Statement.{statement}
 use Rattle.judge.proofs.judge_by_size.Tie as tie
 
+how-many-ask-requires : tie.Need-how-many-ask-requires
+how-many-ask-requires c κs = search needs
+
 is-large-requires : tie.Need-is-large-requires
 is-large-requires c κs = search needs
 
@@ -45,6 +48,7 @@ pub judge-by-size-spec : {M : Type 1} → statement M
 judge-by-size-spec =
     tie.close
     (tie.spec
+    how-many-ask-requires
     is-large-requires
     judge-indexed-requires
     same-length

@@ -17,9 +17,6 @@ part-judge-by-size-start c = search needs
 part-judge-by-size-end : tie.Need-part-judge-by-size-end
 part-judge-by-size-end c = search needs
 
-slice-aggregate-judge-by-size : tie.Need-slice-aggregate-judge-by-size
-slice-aggregate-judge-by-size c = search needs
-
 judge-by-size-requires : tie.Need-judge-by-size-requires
 judge-by-size-requires c κs = search needs
 
@@ -28,6 +25,9 @@ same-length c = search needs
 
 same-length-2 : tie.Need-same-length-2
 same-length-2 c = search needs
+
+same-length-3 : tie.Need-same-length-3
+same-length-3 c = search needs
 
 returns : tie.Need-returns
 returns c = (search typed-answer, search typed-list)
@@ -40,8 +40,8 @@ judge-typed-spec =
     sub-judge-by-size
     part-judge-by-size-start
     part-judge-by-size-end
-    slice-aggregate-judge-by-size
     judge-by-size-requires
     same-length
     same-length-2
+    same-length-3
     returns)

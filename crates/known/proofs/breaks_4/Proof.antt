@@ -1,6 +1,6 @@
 -- `known::breaks_4` meets its contract.
 -- Assumes nothing.
-use Rattle.known.proofs.Laws.{four-extension, four-code, four-unknown}
+use Rattle.known.proofs.Laws.{four-known, four-unknown, three-holds}
 use borrow.Author.Needs.{needs}
 use Rattle.known.proofs.breaks_4.Statement.{statement}
 use Rattle.known.proofs.breaks_4.Tie as tie
@@ -8,23 +8,17 @@ use Rattle.known.proofs.breaks_4.Tie as tie
 is-known-requires : tie.Need-is-known-requires
 is-known-requires c κs = search needs
 
-slice-aggregate-attribute-without-space : tie.Need-slice-aggregate-attribute-without-space
-slice-aggregate-attribute-without-space c = search needs
-
-attribute-without-space-requires : tie.Need-attribute-without-space-requires
-attribute-without-space-requires c κs = search needs
-
-slice-aggregate-attribute-without-space-2 : tie.Need-slice-aggregate-attribute-without-space-2
-slice-aggregate-attribute-without-space-2 c = search needs
-
-attribute-without-space-requires-2 : tie.Need-attribute-without-space-requires-2
-attribute-without-space-requires-2 c κs = search needs
+has-space-requires : tie.Need-has-space-requires
+has-space-requires c κs = search needs
 
 returns : tie.Need-returns
-returns c = search four-extension
+returns c = search four-known
+
+has-space-listed-requires : tie.Need-has-space-listed-requires
+has-space-listed-requires c κs = search three-holds
 
 returns-2 : tie.Need-returns-2
-returns-2 c = search four-code
+returns-2 c = search four-known
 
 returns-3 : tie.Need-returns-3
 returns-3 c = search four-unknown
@@ -34,10 +28,8 @@ breaks-4-spec =
     tie.close
     (tie.spec
     is-known-requires
-    slice-aggregate-attribute-without-space
-    attribute-without-space-requires
-    slice-aggregate-attribute-without-space-2
-    attribute-without-space-requires-2
+    has-space-requires
     returns
+    has-space-listed-requires
     returns-2
     returns-3)

@@ -9,16 +9,16 @@ use Rattle.markup.proofs.is_name_start.Statement.{statement}
 use Rattle.markup.proofs.is_name_start.Tie as tie
 
 returns : tie.Need-returns
-returns c = range (λ b. eqb b 58) isNameStart 0 64 tt (c .before .args .b) (omega arith) (omega arith)
+returns c = range (λ b. ltb b 123) isNameStart 97 255 tt (c .before .args .b) (omega arith) (omega arith)
 
 returns-2 : tie.Need-returns-2
-returns-2 c = range (λ _. true) isNameStart 65 90 tt (c .before .before .args .b) (omega arith) (omega arith)
+returns-2 c = range (λ b. eqb b 58) isNameStart 0 64 tt (c .before .before .args .b) (omega arith) (omega arith)
 
 returns-3 : tie.Need-returns-3
-returns-3 c = range (λ b. eqb b 95) isNameStart 91 96 tt (c .before .before .before .args .b) (omega arith) (omega arith)
+returns-3 c = range (λ _. true) isNameStart 65 90 tt (c .before .before .before .args .b) (omega arith) (omega arith)
 
 returns-4 : tie.Need-returns-4
-returns-4 c = range (λ b. ltb b 123) isNameStart 97 255 tt (c .before .before .before .args .b) (omega arith) (omega arith)
+returns-4 c = range (λ b. eqb b 95) isNameStart 91 96 tt (c .before .before .before .args .b) (omega arith) (omega arith)
 
 pub is-name-start-spec : {M : Type 1} → statement M
 is-name-start-spec = tie.close (tie.spec returns returns-2 returns-3 returns-4)

@@ -1,6 +1,7 @@
 -- `organisations::breaks_17` meets its contract.
 -- Assumes nothing.
-use Rattle.organisations.proofs.Names.{wrong-names, wrong-name, neither}
+use Rattle.organisations.proofs.Names.{wrong-names, neither, said-name, empty-name}
+use borrow.Author.Tests.{not-true}
 use borrow.Author.Needs.{needs}
 use Rattle.organisations.proofs.breaks_17.Statement.{statement}
 use Rattle.organisations.proofs.breaks_17.Tie as tie
@@ -14,17 +15,23 @@ has-one-requires c κs = search needs
 returns : tie.Need-returns
 returns c = search wrong-names
 
-is-name-requires : tie.Need-is-name-requires
-is-name-requires c κs = search needs
+is-role-requires : tie.Need-is-role-requires
+is-role-requires c κs = search needs
+
+returns-2 : tie.Need-returns-2
+returns-2 c = search (neither, not-true)
 
 is-said-requires : tie.Need-is-said-requires
 is-said-requires c κs = search needs
 
-returns-2 : tie.Need-returns-2
-returns-2 c = search wrong-name
-
 returns-3 : tie.Need-returns-3
-returns-3 c = search neither
+returns-3 c = search said-name
+
+is-name-requires : tie.Need-is-name-requires
+is-name-requires c κs = search needs
+
+returns-4 : tie.Need-returns-4
+returns-4 c = search empty-name
 
 pub breaks-17-spec : {M : Type 1} → statement M
 breaks-17-spec =
@@ -33,7 +40,9 @@ breaks-17-spec =
     is-organisation-requires
     has-one-requires
     returns
-    is-name-requires
-    is-said-requires
+    is-role-requires
     returns-2
-    returns-3)
+    is-said-requires
+    returns-3
+    is-name-requires
+    returns-4)

@@ -1,8 +1,8 @@
 -- `registrations::breaks_35` meets its contract.
 -- Assumes nothing.
-use Rattle.registrations.proofs.Operations.{other-35, address-35, usa-35, agent-35}
-use borrow.Author.Needs.{needs}
+use Rattle.registrations.proofs.Operations.{other-35, usa-35, agent-35, address-35}
 use borrow.Author.Tests.{not-true, not-false}
+use borrow.Author.Needs.{needs}
 use Rattle.registrations.proofs.breaks_35.Statement.{statement}
 use Rattle.registrations.proofs.breaks_35.Tie as tie
 
@@ -12,23 +12,23 @@ is-role-requires c κs = search needs
 returns : tie.Need-returns
 returns c = search (other-35, not-true)
 
-address-holds-requires : tie.Need-address-holds-requires
-address-holds-requires c κs = search needs
-
-returns-2 : tie.Need-returns-2
-returns-2 c = search (address-35, not-true, not-false)
-
 in-usa-requires : tie.Need-in-usa-requires
 in-usa-requires c κs = search needs
 
-returns-3 : tie.Need-returns-3
-returns-3 c = search (usa-35, not-false)
+returns-2 : tie.Need-returns-2
+returns-2 c = search (usa-35, not-false)
 
 none-requires : tie.Need-none-requires
 none-requires c κs = search needs
 
+returns-3 : tie.Need-returns-3
+returns-3 c = search (agent-35, not-true, not-false)
+
+address-holds-requires : tie.Need-address-holds-requires
+address-holds-requires c κs = search needs
+
 returns-4 : tie.Need-returns-4
-returns-4 c = search (agent-35, not-false)
+returns-4 c = search (address-35, not-false)
 
 pub breaks-35-spec : {M : Type 1} → statement M
 breaks-35-spec =
@@ -36,9 +36,9 @@ breaks-35-spec =
     (tie.spec
     is-role-requires
     returns
-    address-holds-requires
-    returns-2
     in-usa-requires
-    returns-3
+    returns-2
     none-requires
+    returns-3
+    address-holds-requires
     returns-4)

@@ -8,7 +8,7 @@ use lib.ListN.{length}
 use native.Mathlib.Omega.{arith}
 use Rattle.paths.specs.Paths.{roleOf}
 use Rattle.paths.proofs.Walks.{role-root}
-use Rattle.roles.proofs.Numbers.{Stored, stored-more, stored-all}
+use Rattle.roles.proofs.Numbers.{Stored, front-length, front-stored, stored-more, stored-all}
 use Rattle.roles.proofs.Below.{same-parent, new-parent}
 use Rattle.roles.proofs.fill_to.Statement.{statement}
 use Rattle.roles.proofs.fill_to.Tie as tie
@@ -41,8 +41,17 @@ loop-less c = search needs
 loop-again : tie.Need-loop-again Inv-loop μ-loop
 loop-again c = (search needs, search needs, search stored-more, search needs)
 
-role-of-requires : tie.Need-role-of-requires Inv-loop μ-loop
-role-of-requires c κs = search needs
+sub-role-at : tie.Need-sub-role-at Inv-loop μ-loop
+sub-role-at c = search needs
+
+part-role-at-start : tie.Need-part-role-at-start Inv-loop μ-loop
+part-role-at-start c = search needs
+
+part-role-at-end : tie.Need-part-role-at-end Inv-loop μ-loop
+part-role-at-end c = search needs
+
+role-at-requires : tie.Need-role-at-requires Inv-loop μ-loop
+role-at-requires c κs = (search front-length, search front-stored)
 
 number-in-requires-2 : tie.Need-number-in-requires-2 Inv-loop μ-loop
 number-in-requires-2 c κs = (search needs, search new-parent)
@@ -78,7 +87,10 @@ fill-to-spec =
     add-k
     loop-less
     loop-again
-    role-of-requires
+    sub-role-at
+    part-role-at-start
+    part-role-at-end
+    role-at-requires
     number-in-requires-2
     slice-write-roles-2
     add-k-2

@@ -1,6 +1,6 @@
 -- `roles::role_in` meets its contract.
 -- Assumes nothing.
-use Rattle.roles.proofs.Below.{below-late, below-past, below-named}
+use Rattle.roles.proofs.Below.{below-late, below-past, below-unknown, below-named}
 use Rattle.paths.proofs.Walks.{role-root}
 use Rattle.elements.proofs.Steps.{name-ahead, name-inside, name-there}
 use borrow.Author.Needs.{needs}
@@ -22,6 +22,12 @@ row-number-requires-2 c κs = search needs
 returns-3 : tie.Need-returns-3
 returns-3 c = search below-past
 
+role-number-requires : tie.Need-role-number-requires
+role-number-requires c κs = search needs
+
+returns-4 : tie.Need-returns-4
+returns-4 c = search below-unknown
+
 add-start : tie.Need-add-start
 add-start c = search needs
 
@@ -40,8 +46,8 @@ part-child-role-end c = search (name-inside, name-there)
 child-role-requires : tie.Need-child-role-requires
 child-role-requires c κs = search needs
 
-returns-4 : tie.Need-returns-4
-returns-4 c = search below-named
+returns-5 : tie.Need-returns-5
+returns-5 c = search below-named
 
 pub role-in-spec : {M : Type 1} → statement M
 role-in-spec =
@@ -52,10 +58,12 @@ role-in-spec =
     returns-2
     row-number-requires-2
     returns-3
+    role-number-requires
+    returns-4
     add-start
     name-end-requires
     sub-child-role
     part-child-role-start
     part-child-role-end
     child-role-requires
-    returns-4)
+    returns-5)

@@ -8,9 +8,6 @@ use Rattle.tables.proofs.is_row.Tie as tie
 returns : tie.Need-returns
 returns c = search too-long
 
-field-count-requires : tie.Need-field-count-requires
-field-count-requires c κs = search needs
-
 enum-told : tie.Need-enum-told
 enum-told c = search needs
 
@@ -43,7 +40,6 @@ is-row-spec =
     tie.close
     (tie.spec
     returns
-    field-count-requires
     enum-told
     enum-told-2
     enum-told-3

@@ -1,9 +1,10 @@
 -- `tables::rows_end` meets its contract. The invariant: the end, told from `at`, is that told from i, with fewer rows.
 -- Assumes nothing.
 use mathlib.Core.Path.{refl}
-use borrow.Author.Needs.{needs}
 use Rattle.lines.proofs.Runs.{ahead}
+use Rattle.tables.proofs.Lines.{count-of}
 use Rattle.tables.proofs.Sections.{InRows, rows-done, rows-no-feed, rows-on, rows-bad}
+use borrow.Author.Needs.{needs}
 use Rattle.tables.proofs.rows_end.Statement.{statement}
 use Rattle.tables.proofs.rows_end.Tie as tie
 
@@ -16,8 +17,8 @@ abbrev μ-loop : tie.MeasureT-loop
 loop-holds : tie.Need-loop-holds Inv-loop μ-loop
 loop-holds c = refl
 
-line-end-requires : tie.Need-line-end-requires Inv-loop μ-loop
-line-end-requires c κs = search needs
+line-at-requires : tie.Need-line-at-requires Inv-loop μ-loop
+line-at-requires c κs = search needs
 
 returns : tie.Need-returns Inv-loop μ-loop
 returns c = search rows-no-feed
@@ -32,7 +33,7 @@ part-is-row-end : tie.Need-part-is-row-end Inv-loop μ-loop
 part-is-row-end c = search needs
 
 is-row-requires : tie.Need-is-row-requires Inv-loop μ-loop
-is-row-requires c κs = search needs
+is-row-requires c κs = search count-of
 
 add-i : tie.Need-add-i Inv-loop μ-loop
 add-i c = search needs
@@ -59,7 +60,7 @@ rows-end-spec =
     Inv-loop
     μ-loop
     loop-holds
-    line-end-requires
+    line-at-requires
     returns
     sub-is-row
     part-is-row-start

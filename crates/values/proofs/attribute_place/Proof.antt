@@ -3,7 +3,7 @@
 use Prim.Native.Nat.{_-_}
 use lib.ListN.{length}
 use borrow.Author.Needs.{needs}
-use Rattle.tags.proofs.Parts.{read-closed, read-fits, read-falls}
+use Rattle.tags.proofs.Parts.{read-name, read-closed, read-fits, read-falls}
 use Rattle.values.proofs.Attributes.{Finds, finds-start, finds-out, finds-ended, finds-next, finds-within, finds-long}
 use Rattle.values.proofs.attribute_place.Statement.{statement}
 use Rattle.values.proofs.attribute_place.Tie as tie
@@ -32,8 +32,8 @@ enum-told c = search needs
 returns : tie.Need-returns Inv-loop μ-loop
 returns c = search finds-ended
 
-name-is-requires : tie.Need-name-is-requires Inv-loop μ-loop
-name-is-requires c κs = search needs
+is-named-requires : tie.Need-is-named-requires Inv-loop μ-loop
+is-named-requires c κs = search read-name
 
 sub-if2 : tie.Need-sub-if2 Inv-loop μ-loop
 sub-if2 c = search read-closed
@@ -68,7 +68,7 @@ attribute-place-spec =
     enum-known-b
     enum-told
     returns
-    name-is-requires
+    is-named-requires
     sub-if2
     returns-2
     returns-3

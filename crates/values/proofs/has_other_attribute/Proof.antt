@@ -4,7 +4,7 @@ use Prim.Native.Nat.{_-_}
 use mathlib.Core.List.{[], _∷_}
 use lib.ListN.{length}
 use borrow.Author.Needs.{needs}
-use Rattle.tags.proofs.Parts.{read-fits, read-falls}
+use Rattle.tags.proofs.Parts.{read-name, read-fits, read-falls}
 use Rattle.values.proofs.Attributes.{Others, others-start, others-out, others-ended, others-found, others-next}
 use Rattle.values.proofs.has_other_attribute.Statement.{statement}
 use Rattle.values.proofs.has_other_attribute.Tie as tie
@@ -34,7 +34,7 @@ returns : tie.Need-returns Inv-loop μ-loop
 returns c = search others-ended
 
 is-other-requires : tie.Need-is-other-requires Inv-loop μ-loop
-is-other-requires c κs = search needs
+is-other-requires c κs = search read-name
 
 returns-2 : tie.Need-returns-2 Inv-loop μ-loop
 returns-2 c = search others-found

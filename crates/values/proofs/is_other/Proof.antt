@@ -5,20 +5,20 @@ use borrow.Author.Needs.{needs}
 use Rattle.values.proofs.is_other.Statement.{statement}
 use Rattle.values.proofs.is_other.Tie as tie
 
-name-is-requires : tie.Need-name-is-requires
-name-is-requires c κs = search needs
+is-named-requires : tie.Need-is-named-requires
+is-named-requires c κs = search needs
 
 returns : tie.Need-returns
 returns c = search first-listed
 
-name-is-requires-2 : tie.Need-name-is-requires-2
-name-is-requires-2 c κs = search needs
+is-named-requires-2 : tie.Need-is-named-requires-2
+is-named-requires-2 c κs = search needs
 
 returns-2 : tie.Need-returns-2
 returns-2 c = search second-listed
 
-name-is-requires-3 : tie.Need-name-is-requires-3
-name-is-requires-3 c κs = search needs
+is-named-requires-3 : tie.Need-is-named-requires-3
+is-named-requires-3 c κs = search needs
 
 returns-3 : tie.Need-returns-3
 returns-3 c = search third-listed
@@ -33,11 +33,11 @@ pub is-other-spec : {M : Type 1} → statement M
 is-other-spec =
     tie.close
     (tie.spec
-    name-is-requires
+    is-named-requires
     returns
-    name-is-requires-2
+    is-named-requires-2
     returns-2
-    name-is-requires-3
+    is-named-requires-3
     returns-3
     returns-4
     returns-5)

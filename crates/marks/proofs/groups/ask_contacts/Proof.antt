@@ -1,57 +1,56 @@
 -- `marks::groups::ask_contacts` meets its contract.
 -- Assumes nothing.
 use Rattle.marks.proofs.Grouped.{mark-contacts}
-use borrow.Author.Needs.{needs}
 use Rattle.marks.proofs.groups.ask_contacts.Statement.{statement}
 use Rattle.marks.proofs.groups.ask_contacts.Tie as tie
 
 breaks-30-requires : tie.Need-breaks-30-requires
-breaks-30-requires c κs = search needs
+breaks-30-requires c κs = tt
 
 push-requires : tie.Need-push-requires
-push-requires c κs = search needs
+push-requires c κs = tt
 
 breaks-29-requires : tie.Need-breaks-29-requires
-breaks-29-requires c κs = search needs
+breaks-29-requires c κs = tt
 
 push-requires-2 : tie.Need-push-requires-2
-push-requires-2 c κs = search needs
+push-requires-2 c κs = tt
 
 breaks-28-requires : tie.Need-breaks-28-requires
-breaks-28-requires c κs = search needs
+breaks-28-requires c κs = tt
 
 push-requires-3 : tie.Need-push-requires-3
-push-requires-3 c κs = search needs
+push-requires-3 c κs = tt
 
 breaks-27-requires : tie.Need-breaks-27-requires
-breaks-27-requires c κs = search needs
+breaks-27-requires c κs = tt
 
 push-requires-4 : tie.Need-push-requires-4
-push-requires-4 c κs = search needs
+push-requires-4 c κs = tt
 
 breaks-26-requires : tie.Need-breaks-26-requires
-breaks-26-requires c κs = search needs
+breaks-26-requires c κs = tt
 
 push-requires-5 : tie.Need-push-requires-5
-push-requires-5 c κs = search needs
+push-requires-5 c κs = tt
 
 breaks-25-requires : tie.Need-breaks-25-requires
-breaks-25-requires c κs = search needs
+breaks-25-requires c κs = tt
 
 push-requires-6 : tie.Need-push-requires-6
-push-requires-6 c κs = search needs
+push-requires-6 c κs = tt
 
 breaks-24-requires : tie.Need-breaks-24-requires
-breaks-24-requires c κs = search needs
+breaks-24-requires c κs = tt
 
 push-requires-7 : tie.Need-push-requires-7
-push-requires-7 c κs = search needs
+push-requires-7 c κs = tt
 
 breaks-23-requires : tie.Need-breaks-23-requires
-breaks-23-requires c κs = search needs
+breaks-23-requires c κs = tt
 
 push-requires-8 : tie.Need-push-requires-8
-push-requires-8 c κs = search needs
+push-requires-8 c κs = tt
 
 returns : tie.Need-returns
 returns c = mark-contacts _ _ _ _ _ _ _ _ _ _ _ _ _ _ _ _ _ _ _ _ _ (c .push8 .ensures) (c .before .breaks-23 .ensures) (c .before .before .push7 .ensures) (c .before .before .before .breaks-24 .ensures) (c .before .before .before .before .push6 .ensures) (c .before .before .before .before .before .breaks-25 .ensures) (c .before .before .before .before .before .before .push5 .ensures) (c .before .before .before .before .before .before .before .breaks-26 .ensures) (c .before .before .before .before .before .before .before .before .push4 .ensures) (c .before .before .before .before .before .before .before .before .before .breaks-27 .ensures) (c .before .before .before .before .before .before .before .before .before .before .push3 .ensures) (c .before .before .before .before .before .before .before .before .before .before .before .breaks-28 .ensures) (c .before .before .before .before .before .before .before .before .before .before .before .before .push2 .ensures) (c .before .before .before .before .before .before .before .before .before .before .before .before .before .breaks-29 .ensures) (c .before .before .before .before .before .before .before .before .before .before .before .before .before .before .push .ensures) (c .before .before .before .before .before .before .before .before .before .before .before .before .before .before .before .breaks-30 .ensures)

@@ -6,7 +6,7 @@ use Rattle.marks.proofs.groups.mark_organisations.Statement.{statement}
 use Rattle.marks.proofs.groups.mark_organisations.Tie as tie
 
 is-between-requires : tie.Need-is-between-requires
-is-between-requires c κs = search needs
+is-between-requires c κs = tt
 
 ask-organisations-requires : tie.Need-ask-organisations-requires
 ask-organisations-requires c κs = search needs
@@ -15,7 +15,7 @@ returns : tie.Need-returns
 returns c = search needs
 
 skip-requires : tie.Need-skip-requires
-skip-requires c κs = search needs
+skip-requires c κs = tt
 
 returns-2 : tie.Need-returns-2
 returns-2 c = search organisation-skipped

@@ -6,7 +6,7 @@ use Rattle.marks.proofs.groups.mark_registrations.Statement.{statement}
 use Rattle.marks.proofs.groups.mark_registrations.Tie as tie
 
 is-between-requires : tie.Need-is-between-requires
-is-between-requires c κs = search needs
+is-between-requires c κs = tt
 
 ask-registrations-requires : tie.Need-ask-registrations-requires
 ask-registrations-requires c κs = search needs
@@ -15,7 +15,7 @@ returns : tie.Need-returns
 returns c = search needs
 
 is-between-requires-2 : tie.Need-is-between-requires-2
-is-between-requires-2 c κs = search needs
+is-between-requires-2 c κs = tt
 
 ask-registrations-requires-2 : tie.Need-ask-registrations-requires-2
 ask-registrations-requires-2 c κs = search needs
@@ -24,7 +24,7 @@ returns-2 : tie.Need-returns-2
 returns-2 c = search needs
 
 skip-requires : tie.Need-skip-requires
-skip-requires c κs = search needs
+skip-requires c κs = tt
 
 returns-3 : tie.Need-returns-3
 returns-3 c = search registration-skipped

@@ -20,13 +20,13 @@ same-length : tie.Need-same-length Inv-loop μ-loop
 same-length c = search needs
 
 returns : tie.Need-returns Inv-loop μ-loop
-returns c = (search left-none-count, search left-none-list)
+returns c = (search (left-none-count _ _ _ _ _ _ _ _ _ (c .before .before .loop .inv)), search (left-none-list _ _ _ _ _ _ _ _ _ (c .before .before .loop .inv)))
 
 finding-requires : tie.Need-finding-requires Inv-loop μ-loop
-finding-requires c κs = search needs
+finding-requires c κs = tt
 
 append-at-requires : tie.Need-append-at-requires Inv-loop μ-loop
-append-at-requires c κs = search needs
+append-at-requires c κs = tt
 
 add-p : tie.Need-add-p Inv-loop μ-loop
 add-p c = search needs
@@ -44,13 +44,13 @@ loop-less-2 : tie.Need-loop-less-2 Inv-loop μ-loop
 loop-less-2 c = search needs
 
 loop-again-2 : tie.Need-loop-again-2 Inv-loop μ-loop
-loop-again-2 c = search left-no
+loop-again-2 c = search (left-no _ _ _ _ _ _ _ _ _ (c .before .before .before .loop .inv))
 
 same-length-2 : tie.Need-same-length-2 Inv-loop μ-loop
 same-length-2 c = search needs
 
 returns-2 : tie.Need-returns-2 Inv-loop μ-loop
-returns-2 c = (search left-over-count, search left-over-list)
+returns-2 c = (search (left-over-count _ _ _ _ _ _ _ _ _ (c .before .loop .inv)), search (left-over-list _ _ _ _ _ _ _ _ _ (c .before .loop .inv)))
 
 pub write-at-spec : {M : Type 1} → statement M
 write-at-spec =
