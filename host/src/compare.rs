@@ -21,6 +21,9 @@ const ENOUGH: usize = 20;
 /// Cases from one line on the way to the next: a program that ends without a word ended after the last of them.
 const PROGRESS: u64 = 50_000;
 
+/// Tables of so many bytes have very many rows.
+const CROWD: usize = 300_000;
+
 /// Records lent where nothing says how many are needed.
 const AMPLE: usize = 40;
 
@@ -34,7 +37,7 @@ fn main() -> ExitCode {
     let trace = arguments.get(4).is_some_and(|argument| argument == "trace");
 
     let (begin, limit) = (Instant::now(), Duration::from_secs(seconds));
-    let mut tally = Tally { refusals: [0; 14], procedures: [0; 39], joined: 0, values: [0; 3] };
+    let mut tally = Tally { refusals: [0; 14], procedures: [0; 39], crowded: 0, joined: 0, values: [0; 3] };
     let mut differ = 0;
     let mut ran = 0u64;
     for seed in first..after {
@@ -65,14 +68,16 @@ fn main() -> ExitCode {
 struct Tally {
     refusals: [u64; 14],
     procedures: [u64; 39],
+    crowded: u64,
     joined: u64,
     values: [u64; 3],
 }
 
 impl Tally {
-    fn answer(&mut self, (refusal, count): (u32, u32), list: &[u32]) {
+    fn answer(&mut self, (refusal, count): (u32, u32), tables: &[u8], list: &[u32]) {
         self.refusals[refusal as usize] += 1;
         if refusal == 0 {
+            self.crowded += u64::from(tables.len() >= CROWD);
             for record in list.chunks(FINDING).take(count as usize) {
                 self.procedures[record[0] as usize] += 1;
             }
@@ -82,6 +87,7 @@ impl Tally {
     fn print(&self) {
         println!("  accepted {}; refused, by number: {:?}", self.refusals[0], &self.refusals[1..]);
         println!("  findings, by procedure: {:?}", &self.procedures[1..]);
+        println!("  accepted under tables of very many rows: {}", self.crowded);
         println!("  lists merged and held against joined tables: {}", self.joined);
         println!("  values in the document, in scratch, empty: {:?}", self.values);
     }
@@ -157,7 +163,7 @@ fn check(random: &mut Random, case: &Case, tables: &[u8], tally: &mut Tally) -> 
     let elements = records(case.elements, needs.map(|(elements, _)| elements)) * ROW + case.odd_numbers;
     let findings = records(case.findings, needs.map(|(_, findings)| findings)) * FINDING + case.odd_numbers % FINDING;
     let (answer, list) = check_both(random, &case.document, tables, case.scratch, elements, findings)?;
-    tally.answer(answer, &list);
+    tally.answer(answer, tables, &list);
     Ok(())
 }
 
@@ -208,7 +214,7 @@ fn joined(random: &mut Random, case: &Case, tally: &mut Tally) -> Result<(), Str
         if refusal > 0 {
             return Ok(());
         }
-        tally.answer((refusal, count), &list);
+        tally.answer((refusal, count), tables, &list);
         found.push(list);
     }
     let mut out = vec![0; found[2].len()];

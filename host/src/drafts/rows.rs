@@ -3,6 +3,9 @@
 use crate::pools;
 use crate::random::Random;
 
+/// One file in so many has very many rows.
+const CROWDED: usize = 250;
+
 /// What tables could know of a draft.
 pub struct Facts {
     pub kind: &'static str,
@@ -32,7 +35,7 @@ impl Facts {
     /// A tables file that has some of the facts, and some rows that are near to them.
     pub fn file(&self, random: &mut Random) -> Vec<u8> {
         let knows = random.pick(&[100, 100, 90, 50, 0]);
-        let mut codes = Vec::new();
+        let mut codes: Vec<Vec<String>> = Vec::new();
         for [code, system, name] in &self.codes {
             if random.in_100(knows) {
                 let name = if random.in_100(50) { swapped_case(random, name) } else { name.clone() };
@@ -58,12 +61,42 @@ impl Facts {
         for _ in 0..random.pick(&[0, 0, 0, 1, 2, 4]) {
             history.push(self.past(random));
         }
+        let mut sections = [codes, register, history];
+        if random.below(CROWDED) == 0 {
+            let size = 300_000 + random.below(500_000);
+            self.crowd(random, &mut sections, size);
+        }
         let mut bytes = Vec::new();
-        for section in [&mut codes, &mut register, &mut history] {
+        for section in &mut sections {
             random.shuffle(section);
             write_section(section, &mut bytes);
         }
         bytes
+    }
+
+    /// Adds rows that have some fields of the draft, until there are so many bytes of them: enough for the product to look
+    /// them up otherwise than by a walk along all rows.
+    fn crowd(&self, random: &mut Random, sections: &mut [Vec<Vec<String>>; 3], size: usize) {
+        let mut added = 0;
+        while added < size {
+            let mut section = random.below(3);
+            let mut row = match section {
+                0 if !self.codes.is_empty() => self.codes[random.below(self.codes.len())].to_vec(),
+                1 if !self.firms.is_empty() => self.firms[random.below(self.firms.len())].to_vec(),
+                _ => {
+                    section = 2;
+                    vec![self.kind.to_string(), self.set.clone(), self.version.to_string(), random.guid(), self.key.clone()]
+                }
+            };
+            // Each row is one of the draft's, with some of its fields replaced; a history's version stays a number.
+            for (at, field) in row.iter_mut().enumerate() {
+                if (at != 2 || section == 0) && random.in_100(60) {
+                    *field = random.digits(9);
+                }
+            }
+            added += row.iter().map(|field| field.len() + 1).sum::<usize>();
+            sections[section].push(row);
+        }
     }
 
     /// A row of the history, each field that of the draft or another.
