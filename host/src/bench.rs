@@ -9,6 +9,7 @@ use drafts::clean::{self, Below, Element, DUNS, LABELER_CODES, NCI};
 use drafts::random::Random;
 use drafts::rows::{write_section, Facts};
 use reference::grammar::limits;
+use std::collections::HashMap;
 use std::ffi::c_int;
 use std::hint::black_box;
 use std::io::{Read, Write};
@@ -69,6 +70,7 @@ fn main() {
     worst_readings(bench);
     worst_siblings(bench);
     worst_codes(bench);
+    worst_chain(bench);
     worst_register(bench);
     worst_histories(bench);
 
@@ -146,6 +148,38 @@ fn worst_codes(bench: &mut Bench) {
         let near = filled(&known_rows(&facts), 0, |number| fields(number, "?").to_vec());
         bench.worst(&format!("16,000 near codes, {kind}, full list"), &clean::render_plainly(&root), &near);
     }
+}
+
+/// Codes that are sought among rows which all have their hash: made so that the product's index is of no use.
+fn worst_chain(bench: &mut Bench) {
+    let pairs = colliding(14);
+    // The first pair tells the rows from the codes, and the digits of a number choose from the others.
+    let name = |side: usize, number: usize| -> String {
+        let chosen = pairs.iter().enumerate().map(|(at, pair)| &pair[if at == 0 { side } else { number >> (at - 1) & 1 }]);
+        chosen.map(String::as_str).collect()
+    };
+    let (mut root, facts) = registration_draft(1);
+    let codes = (0..6_000).map(|number| code(["a", "s", &name(1, number)])).collect();
+    establishment_entity(&mut root).children().push(performance(codes));
+    let alike = filled(&known_rows(&facts), 0, |number| vec!["a".to_string(), "s".to_string(), name(0, number)]);
+    bench.worst("6,000 codes, full list of their hash", &clean::render_plainly(&root), &alike);
+}
+
+/// Pairs of different strings of eight small letters with the same hash, as `crates/index` has it.
+fn colliding(count: usize) -> Vec<[String; 2]> {
+    let random = &mut Random::new(3);
+    let mut seen = HashMap::new();
+    let mut pairs = Vec::new();
+    while pairs.len() < count {
+        let letters: String = (0..8).map(|_| char::from(b'a' + random.below(26) as u8)).collect();
+        let hash = letters.bytes().fold(0u32, |hash, byte| hash.wrapping_mul(16_777_619).wrapping_add(byte.into()));
+        if let Some(other) = seen.insert(hash, letters.clone()) {
+            if other != letters {
+                pairs.push([other, letters]);
+            }
+        }
+    }
+    pairs
 }
 
 /// Organisations that are sought in a register of their number and nearly their name: procedure 18.
