@@ -9,7 +9,6 @@ use drafts::clean::{self, Below, Element, DUNS, LABELER_CODES, NCI};
 use drafts::random::Random;
 use drafts::rows::{write_section, Facts};
 use reference::grammar::limits;
-use std::collections::HashMap;
 use std::ffi::c_int;
 use std::hint::black_box;
 use std::io::{Read, Write};
@@ -70,7 +69,7 @@ fn main() {
     worst_readings(bench);
     worst_siblings(bench);
     worst_codes(bench);
-    worst_chain(bench);
+    worst_order(bench);
     worst_register(bench);
     worst_histories(bench);
 
@@ -150,36 +149,24 @@ fn worst_codes(bench: &mut Bench) {
     }
 }
 
-/// Codes that are sought among rows which all have their hash: made so that the product's index is of no use.
-fn worst_chain(bench: &mut Bench) {
-    let pairs = colliding(14);
-    // The first pair tells the rows from the codes, and the digits of a number choose from the others.
-    let name = |side: usize, number: usize| -> String {
-        let chosen = pairs.iter().enumerate().map(|(at, pair)| &pair[if at == 0 { side } else { number >> (at - 1) & 1 }]);
-        chosen.map(String::as_str).collect()
-    };
-    let (mut root, facts) = registration_draft(1);
-    let codes = (0..6_000).map(|number| code(["a", "s", &name(1, number)])).collect();
-    establishment_entity(&mut root).children().push(performance(codes));
-    let alike = filled(&known_rows(&facts), 0, |number| vec!["a".to_string(), "s".to_string(), name(0, number)]);
-    bench.worst("6,000 codes, full list of their hash", &clean::render_plainly(&root), &alike);
-}
-
-/// Pairs of different strings of eight small letters with the same hash, as `crates/index` has it.
-fn colliding(count: usize) -> Vec<[String; 2]> {
-    let random = &mut Random::new(3);
-    let mut seen = HashMap::new();
-    let mut pairs = Vec::new();
-    while pairs.len() < count {
-        let letters: String = (0..8).map(|_| char::from(b'a' + random.below(26) as u8)).collect();
-        let hash = letters.bytes().fold(0u32, |hash, byte| hash.wrapping_mul(16_777_619).wrapping_add(byte.into()));
-        if let Some(other) = seen.insert(hash, letters.clone()) {
-            if other != letters {
-                pairs.push([other, letters]);
-            }
-        }
+/// Codes that are sought among rows which are far from being in order: the product sorts them. Rows of few bytes, so that there are
+/// as many as can be; rows that are the same up to their ends; and some long ones, which are compared with many short ones.
+fn worst_order(bench: &mut Bench) {
+    let scattered = |number: usize| usize::from((number as u16).reverse_bits());
+    let few = |number: usize, end: &str| format!("{:05}{end}", scattered(number));
+    let alike = |number: usize, end: &str| format!("{}{:05}{end}", "n".repeat(110), scattered(number));
+    let some = |number: usize, end: &str| format!("{}{end}", few(number, &"n".repeat(if number % 500 == 250 { 4_000 } else { 0 })));
+    type Name<'a> = &'a dyn Fn(usize, &str) -> String;
+    // What the rows are called, and what the codes.
+    let kinds: [(&str, usize, Name, Name); 3] =
+        [("scattered", 16_000, &few, &few), ("of one long start", 6_000, &alike, &alike), ("some rows long", 16_000, &some, &few)];
+    for (kind, count, row, sought) in kinds {
+        let (mut root, facts) = registration_draft(1);
+        let codes = (0..count).map(|number| code(["a", "s", &sought(number, "!")])).collect();
+        establishment_entity(&mut root).children().push(performance(codes));
+        let rows = filled(&known_rows(&facts), 0, |number| vec!["a".to_string(), "s".to_string(), row(number, "?")]);
+        bench.worst(&format!("{count} near codes, full list {kind}"), &clean::render_plainly(&root), &rows);
     }
-    pairs
 }
 
 /// Organisations that are sought in a register of their number and nearly their name: procedure 18.

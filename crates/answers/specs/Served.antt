@@ -7,7 +7,7 @@ use lib.ListN.{length}
 use Rattle.scan.specs.Bytes.{text}
 use Rattle.rows.specs.declared.Question.the-variants.{Code, Name, KeyElsewhere}
 use Rattle.index.specs.declared.Keys.{Keys}
-use Rattle.index.specs.Indexed.{keepsRow, bucketOfRow, Serves}
+use Rattle.index.specs.Indexed.{keepsRow, Serves}
 use Rattle.index.specs.SetKeys.{keysOf}
 use Rattle.drafts.specs.Drafts.{Draft, attribute}
 use Rattle.header.specs.Header.{requestCode}
@@ -15,14 +15,14 @@ use Rattle.answers.specs.declared.Places.{Places}
 use Rattle.answers.specs.Answers.{typeCode}
 
 abbrev pub CodesServed : List ℕ → Places → List ℕ → Type 0
-CodesServed s p x = Serves (keepsRow Code [] []) (bucketOfRow Code) s (p .codes) (p .ncodes) x
+CodesServed s p x = Serves Code (keepsRow Code [] []) s (p .codes) (p .ncodes) x
 
 abbrev pub NamesServed : List ℕ → Places → List ℕ → Type 0
-NamesServed s p x = Serves (keepsRow Name [] []) (bucketOfRow Name) s (p .names) (p .nnames) x
+NamesServed s p x = Serves Name (keepsRow Name [] []) s (p .names) (p .nnames) x
 
 -- the keys of rows of this type under another set id
 abbrev pub KeysServed : List ℕ → List ℕ → List ℕ → Places → List ℕ → Type 0
-KeysServed type set s p x = Serves (keepsRow KeyElsewhere type set) (bucketOfRow KeyElsewhere) s (p .history) (p .nhistory) x
+KeysServed type set s p x = Serves KeyElsewhere (keepsRow KeyElsewhere type set) s (p .history) (p .nhistory) x
 
 -- what the places tell of the keys of rows with the set id
 abbrev pub keysAt : Places → Keys

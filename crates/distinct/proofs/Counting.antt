@@ -1,48 +1,30 @@
 -- Two of the same name, by how many positions have a name: that does not depend on their order.
 -- Assumes nothing.
-use mathlib.Core.Path.{_≡_, refl, sym, _∙_, ap, ap₂}
+use mathlib.Core.Path.{_≡_, refl, sym, _∙_}
 use mathlib.Core.Bool.{Bool, true, false}
-use mathlib.Core.List.{List, [], _∷_, _++_}
-use Prim.Native.Nat.{ℕ, _+_, _<_, _≤_}
+use mathlib.Core.List.{List, [], _∷_}
+use Prim.Native.Nat.{ℕ, _+_, _≤_}
 use native.Mathlib.Omega.{arith}
-use borrow.Author.Tests.{eq-eqb, eqb-true, lt-ltb, ltb-true}
-use lib.Dec.{eqb, ltb}
+use borrow.Author.Tests.{lt-ltb, ltb-true}
+use lib.Dec.{eqb}
 use Rattle.scan.specs.Choice.{pick, _or_}
-use Rattle.scan.specs.Lists.{pairs}
-use Rattle.scan.proofs.Tests.{never, or-true, and-left, and-right}
-use Rattle.distinct.specs.Names.{nameOf}
-use Rattle.distinct.specs.Repeats.{isCalled, some, twice}
-use Rattle.distinct.specs.Sorting.{count}
+use Rattle.scan.specs.Lists.{some, pairs}
+use Rattle.scan.proofs.Tests.{never, or-true}
+use Rattle.facts.specs.Strings.{equal}
+use Rattle.facts.proofs.StringLaws.{equal-same, equal-is}
+use Rattle.ordering.specs.Keys.{nameOf}
+use Rattle.sorting.specs.Sorting.{count, Rearranged}
+use Rattle.sorting.proofs.Counting.{some-count}
+use Rattle.distinct.specs.Repeats.{isCalled, twice}
 
 -- ---- equal lists, element by element
 pub same-pairs : (l : List ℕ) → pairs eqb l l ≡ true
-unfolding pairs
-same-pairs [] = refl
-same-pairs (x ∷ xs) = rw (eq-eqb x x refl) (same-pairs xs)
+unfolding equal
+same-pairs = equal-same
 
 pub pairs-same : (l m : List ℕ) → pairs eqb l m ≡ true → l ≡ m
-unfolding pairs
-pairs-same [] [] e = refl
-pairs-same [] (y ∷ ys) e = never (sym e)
-pairs-same (x ∷ xs) [] e = never (sym e)
-pairs-same (x ∷ xs) (y ∷ ys) e =
-    ap₂ (λ z zs. z ∷ zs) (eqb-true x y (and-left (eqb x y) (pairs eqb xs ys) e)) (pairs-same xs ys (and-right (eqb x y) (pairs eqb xs ys) e))
-
--- ---- how many
-pub count-append : (p : ℕ → Bool) (bs cs : List ℕ) → count p (bs ++ cs) ≡ count p bs + count p cs
-unfolding count
-count-append p [] cs = omega arith
-count-append p (b ∷ bs) cs = omega (arith, count-append p bs cs)
-
-some-more : (t : Bool) (n : ℕ) → t or ltb 0 n ≡ ltb 0 (pick t 1 0 + n)
-some-more true n = let h : 0 < 1 + n = omega arith in rw (lt-ltb 0 (1 + n) h)
-some-more false n = let e : 0 + n ≡ n = omega arith in rw e
-
--- one has the property where they are not none
-some-count : (p : ℕ → Bool) (bs : List ℕ) → some p bs ≡ ltb 0 (count p bs)
-unfolding some count
-some-count p [] = refl
-some-count p (b ∷ bs) = ap (λ t. p b or t) (some-count p bs) ∙ some-more (p b) (count p bs)
+unfolding equal
+pairs-same = equal-is
 
 -- ---- some name is had by two
 module _ (s : List ℕ) where
@@ -55,7 +37,7 @@ module _ (s : List ℕ) where
       go true g h k = f (nameOf s b) (rw (same-pairs (nameOf s b)) (omega (arith, ltb-true 0 (count (isCalled s (nameOf s b)) bs) (sym (some-count (isCalled s (nameOf s b)) bs) ∙ g))))
       go false g h k = k h
 
-  pub count-twice : (t bs : List ℕ) → 2 ≤ count (isCalled s t) bs → twice s bs ≡ true
+  count-twice : (t bs : List ℕ) → 2 ≤ count (isCalled s t) bs → twice s bs ≡ true
   unfolding twice count
   count-twice t [] h = absurd (omega arith)
   count-twice t (b ∷ bs) h = go (isCalled s t b) refl h (count-twice t bs)
@@ -64,6 +46,14 @@ module _ (s : List ℕ) where
       go true e g k = rw (← pairs-same t (nameOf s b) e, some-count (isCalled s t) bs, lt-ltb 0 (count (isCalled s t) bs) (omega arith))
       go false e g k = rw (k (omega arith)) (or-true (some (isCalled s (nameOf s b)) bs))
 
-  -- where each property is had by as many or more
-  pub more-twice : (bs cs : List ℕ) → ((p : ℕ → Bool) → count p bs ≤ count p cs) → twice s bs ≡ true → twice s cs ≡ true
-  more-twice bs cs h e = twice-count bs e (λ t k. count-twice t cs (omega (arith, h (isCalled s t))))
+  twice-kept : (bs cs : List ℕ) → Rearranged bs cs → twice s bs ≡ true → twice s cs ≡ true
+  twice-kept bs cs h e = twice-count bs e (λ t k. count-twice t cs (omega (arith, h (isCalled s t))))
+
+  -- the same positions in another order
+  pub same-twice : (bs cs : List ℕ) → Rearranged bs cs → twice s bs ≡ twice s cs
+  same-twice bs cs h = go (twice s bs) (twice s cs) refl refl
+    where
+      go : (t u : Bool) → twice s bs ≡ t → twice s cs ≡ u → t ≡ u
+      go true u e f = sym (twice-kept bs cs h e) ∙ f
+      go false true e f = sym e ∙ twice-kept cs bs (λ p. sym (h p)) f
+      go false false e f = refl

@@ -1,5 +1,3 @@
-pub mod Names
 pub mod Repeats
-pub mod Sorting
 pub mod Examples
 pub mod Unique

@@ -5,19 +5,23 @@ use mathlib.Core.Bool.{Bool, false}
 use mathlib.Core.List.{List, [], _∷_}
 use lib.Dec.{eqb}
 use Rattle.scan.specs.Choice.{_or_}
-use Rattle.scan.specs.Lists.{pairs}
-use Rattle.distinct.specs.Names.{nameOf}
+use Rattle.scan.specs.Lists.{some, pairs}
+use Rattle.ordering.specs.Keys.{nameOf}
 
 -- the name at position b is t
 abbrev pub isCalled : List ℕ → List ℕ → ℕ → Bool
 isCalled s t b = pairs eqb t (nameOf s b)
 
--- one of the positions has the property
-unfoldable pub some : (ℕ → Bool) → List ℕ → Bool
-some p [] = false
-some p (b ∷ bs) = p b or some p bs
-
 -- two of them have the same name
 unfoldable pub twice : List ℕ → List ℕ → Bool
 twice s [] = false
 twice s (b ∷ bs) = some (isCalled s (nameOf s b)) bs or twice s bs
+
+-- two neighbours have the same name, where b stands before the others
+unfoldable pub neighboursFrom : List ℕ → ℕ → List ℕ → Bool
+neighboursFrom s b [] = false
+neighboursFrom s b (c ∷ cs) = isCalled s (nameOf s b) c or neighboursFrom s c cs
+
+unfoldable pub neighbours : List ℕ → List ℕ → Bool
+neighbours s [] = false
+neighbours s (b ∷ bs) = neighboursFrom s b bs

@@ -1,17 +1,17 @@
 -- A sound reading stays sound at each turn, and each turn goes on behind the last.
 -- Assumes nothing.
-use mathlib.Core.Path.{_≡_, refl, sym, _∙_, ap, subst}
+use mathlib.Core.Path.{_≡_, refl, _∙_, subst}
 use mathlib.Core.Bool.{Bool, true, false}
-use mathlib.Core.List.{List, [], _∷_, _++_}
+use mathlib.Core.List.{List, _++_}
 use Prim.Native.Nat.{ℕ, zero, suc, _+_, _-_, _*_, _<_, _≤_}
 use native.Mathlib.Omega.{arith}
 use borrow.Author.Tests.{ltb-true, eqb-true, eqb-false}
 use lib.Dec.{ltb, eqb}
-use lib.ListN.{length, take, getD, set, length-set, length-append, List·getD-append, List·getD-eq-default}
+use lib.ListN.{length, getD, set, length-set, length-append, List·getD-append}
 use lib.Seq.{getD-append-add, getD-set-same, getD-set-other}
-use Rattle.scan.specs.Choice.{pick, _and_}
+use Rattle.scan.specs.Choice.{pick}
 use Rattle.scan.specs.Turns.{Turn, on, out}
-use Rattle.scan.proofs.Tests.{and-left, and-right}
+use Rattle.scan.proofs.Tests.{and-left}
 use Rattle.scan.proofs.Within.{inside}
 use Rattle.pieces.specs.declared.Kind.{Kind}
 use Rattle.pieces.specs.declared.Kind.the-variants.{Text, Comment, Instruction, Declaration, Start, Empty, End}
@@ -19,7 +19,7 @@ use Rattle.pieces.specs.declared.Scanned.{Scanned}
 use Rattle.pieces.specs.declared.Scanned.the-variants.{Piece, Refused}
 use Rattle.pieces.specs.Pieces.{pieceAt}
 use Rattle.pieces.proofs.Within.{Within, piece-within}
-use Rattle.elements.specs.Elements.{Reading, Read, refused, elements, row, parentOf, passed, added, closed, hasRoom, adding, isNamed, contentFits, closing, partOf, byPiece, atEnd, turn, left}
+use Rattle.elements.specs.Elements.{Reading, Read, refused, row, parentOf, passed, added, closed, hasRoom, adding, isNamed, contentFits, closing, partOf, byPiece, atEnd, turn, left}
 use Rattle.elements.specs.Walked.{Sound}
 
 -- ---- what a list has after a row is added, or a number stored

@@ -1,14 +1,14 @@
 -- What `read` answers and leaves, by the tests in which the code looks.
 -- Assumes nothing.
-use mathlib.Core.Path.{_≡_, refl, sym, _∙_, ap, subst}
+use mathlib.Core.Path.{_≡_, refl, sym, _∙_, subst}
 use mathlib.Core.List.{List, _++_}
-use Prim.Native.Nat.{ℕ, _+_, _*_, _<_, _≤_}
+use Prim.Native.Nat.{ℕ, _*_, _<_, _≤_}
 use borrow.Author.Tests.{lt-ltb, le-ltb, le-leb, lt-leb}
 use lib.ListN.{length, take, drop}
 use Rattle.chars.specs.Utf8.{firstBad}
 use Rattle.elements.specs.declared.Answer.{Answer}
 use Rattle.elements.specs.declared.Answer.the-variants.{Elements, Refused}
-use Rattle.elements.specs.Elements.{Read, refused, elements, fresh, readFrom, elementsOf, answerOf, tableAfter, Leaves}
+use Rattle.elements.specs.Elements.{Read, refused, elements, fresh, readFrom, elementsOf, Leaves}
 use Rattle.elements.specs.Walked.{readOf}
 use Rattle.elements.proofs.Steps.{front-fits}
 use Rattle.elements.proofs.Preorder.{IsTable, reading-table}

@@ -3,24 +3,23 @@
 -- Assumes nothing.
 use mathlib.Core.Path.{_≡_, refl, sym, _∙_, ap, subst}
 use mathlib.Core.Bool.{Bool, true, false}
-use mathlib.Core.List.{List, [], _∷_, _++_}
-use Prim.Native.Nat.{ℕ, zero, suc, _+_, _-_, _*_, _<_, _≤_}
+use mathlib.Core.List.{List, _++_}
+use Prim.Native.Nat.{ℕ, suc, _+_, _-_, _*_, _<_, _≤_}
 use native.Mathlib.Omega.{arith}
 use borrow.Author.Tests.{ltb-true}
 use lib.Dec.{ltb, eqb}
-use lib.ListN.{length, getD, set}
+use lib.ListN.{length, set}
 use lib.Seq.{getD-set-other}
 use Rattle.scan.specs.Choice.{pick, _and_}
 use Rattle.scan.specs.Turns.{Turn, on, out}
 use Rattle.scan.proofs.Turns.{run-keeps}
 use Rattle.scan.proofs.Tests.{pick-case, and-right}
 use Rattle.scan.proofs.Within.{inside}
-use Rattle.pieces.specs.declared.Kind.{Kind}
 use Rattle.pieces.specs.declared.Kind.the-variants.{Text, Comment, Instruction, Declaration, Start, Empty, End}
 use Rattle.pieces.specs.declared.Scanned.{Scanned}
 use Rattle.pieces.specs.declared.Scanned.the-variants.{Piece, Refused}
 use Rattle.pieces.specs.Pieces.{pieceAt}
-use Rattle.elements.specs.Elements.{Reading, Read, refused, elements, fresh, row, parentOf, passed, added, closed, hasRoom, adding, closing, partOf, byPiece, atEnd, turn, left, readFrom}
+use Rattle.elements.specs.Elements.{Reading, Read, refused, elements, fresh, row, parentOf, passed, added, closed, hasRoom, adding, partOf, byPiece, atEnd, turn, left, readFrom}
 use Rattle.elements.specs.Walked.{Sound}
 use Rattle.elements.specs.Table.{Preorder, Table}
 use Rattle.elements.proofs.Keeps.{in-first, in-second, went, never-on, gone, chosen, closing-on, piece-out, turn-falls}

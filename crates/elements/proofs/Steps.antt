@@ -1,22 +1,19 @@
 -- The steps of a reading, by the branches in which the code looks.
 -- Assumes nothing.
-use mathlib.Core.Path.{_≡_, refl, sym, _∙_, ap, subst}
+use mathlib.Core.Path.{_≡_, refl, sym, subst}
 use mathlib.Core.Bool.{Bool, true, false}
-use mathlib.Core.List.{List, [], _∷_, _++_}
+use mathlib.Core.List.{List, _++_}
 use Prim.Native.Nat.{ℕ, zero, suc, _+_, _-_, _*_, _<_, _≤_}
 use native.Mathlib.Omega.{arith}
-use borrow.Author.Tests.{lt-ltb, le-ltb, le-leb, lt-leb}
+use borrow.Author.Tests.{lt-ltb, le-ltb}
 use lib.Dec.{ltb, leb}
 use lib.ListN.{length, take, getD, set, length-take}
 use lib.Seq.{take-set-lt, getD-take}
-use Rattle.scan.specs.Choice.{pick, _or_, _and_}
-use Rattle.scan.specs.Turns.{Turn, on, out}
+use Rattle.scan.specs.Turns.{Turn, on}
 use Rattle.scan.proofs.Tests.{and-false}
 use Rattle.facts.specs.Strings.{equal}
 use Rattle.reader.specs.declared.Reader.{Reader}
 use Rattle.pieces.specs.declared.Part.the-variants.{Before, Inside, After}
-use Rattle.markup.specs.Names.{nameEnd}
-use Rattle.markup.proofs.Names.{name-least, name-most}
 use Rattle.pieces.specs.Pieces.{nameAt}
 use mir.Val.{Fits}
 use mir.Syntax.{w64}
@@ -27,8 +24,8 @@ use Rattle.pieces.specs.declared.Scanned.the-variants.{Piece, Refused as Refusi
 use Rattle.elements.specs.declared.Answer.the-variants.{Refused}
 use Rattle.elements.specs.declared.Stepped.{Stepped}
 use Rattle.elements.specs.declared.Stepped.the-variants.{On, Stopped}
-use Rattle.elements.specs.Elements.{Reading, Read, refused, elements, row, parentOf, firstOf, afterOf, passed, added, closed, hasRoom, adding, isNamed, contentFits, closing, partOf, byPiece}
-use Rattle.elements.specs.Walked.{reading, turnOf, refusalOf, stopOf, Sound, Steps, Roomy}
+use Rattle.elements.specs.Elements.{Reading, Read, row, passed, adding, isNamed, contentFits, closing, partOf, byPiece}
+use Rattle.elements.specs.Walked.{reading, turnOf, refusalOf, stopOf, Steps, Roomy}
 
 -- ---- the part of the document
 pub part-inside : (count depth : ℕ) → 0 < depth → Inside ≡ partOf count depth
@@ -192,18 +189,6 @@ stopped-step x n at e = rw e
 
 pub no-stopped-step : (x : Stepped) (d : Reader) (at : ℕ) → x ≡ On d → Refused 7 at ≡ stopOf x at
 no-stopped-step x d at e = rw e
-
--- ---- names, for the layers above
-module _ (s : List ℕ) (i r : ℕ) (e : r ≡ nameEnd s i) where
-  pub name-ahead : i ≤ r
-  name-ahead = omega (arith, name-least s i)
-
-  pub name-inside : i ≤ length s → r ≤ length s
-  name-inside h = omega (arith, name-most s i h)
-
--- behind the first byte of a tag the document goes on, or ends
-pub name-there : (s : List ℕ) (f : ℕ) → f < length s → f + 1 ≤ length s
-name-there s f h = omega arith
 
 -- ---- one piece, by its kind
 module _ (s : List ℕ) (d : Reader) (numbers : List ℕ) (after : ℕ) (kind : Kind) (x : Turn Reading Read) where

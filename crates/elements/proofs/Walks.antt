@@ -2,21 +2,21 @@
 -- Assumes nothing.
 use mathlib.Core.Path.{_≡_, refl, sym, _∙_, ap, subst}
 use mathlib.Core.Bool.{Bool, true, false}
-use mathlib.Core.List.{List, []}
-use Prim.Native.Nat.{ℕ, zero, suc, _+_, _-_, _*_, _<_, _≤_}
+use mathlib.Core.List.{List}
+use Prim.Native.Nat.{ℕ, zero, suc, _-_, _<_, _≤_}
 use native.Mathlib.Omega.{arith}
 use borrow.Author.Tests.{lt-ltb, le-ltb, eq-eqb, ne-eqb, ltb-true}
 use lib.Dec.{ltb, eqb}
-use lib.ListN.{length, take, getD}
-use Rattle.scan.specs.Choice.{pick, _and_}
-use Rattle.scan.specs.Turns.{Turn, on, out, run}
+use lib.ListN.{length}
+use Rattle.scan.specs.Choice.{pick}
+use Rattle.scan.specs.Turns.{on, out}
 use Rattle.scan.proofs.Turns.{run-on, run-out}
 use Rattle.scan.proofs.Tests.{and-false}
 use Rattle.reader.specs.declared.Reader.{Reader}
 use Rattle.pieces.specs.declared.Kind.{Kind}
 use Rattle.pieces.specs.declared.Kind.the-variants.{End}
 use Rattle.pieces.specs.declared.Part.{Part}
-use Rattle.pieces.specs.declared.Part.the-variants.{Before, Inside, After}
+use Rattle.pieces.specs.declared.Part.the-variants.{Inside}
 use Rattle.pieces.specs.declared.Scanned.{Scanned}
 use Rattle.pieces.specs.declared.Scanned.the-variants.{Piece, Refused as Refusing}
 use Rattle.pieces.specs.Pieces.{pieceAt}
@@ -25,7 +25,7 @@ use Rattle.elements.specs.declared.Answer.{Answer}
 use Rattle.elements.specs.declared.Answer.the-variants.{Elements, Refused}
 use Rattle.elements.specs.declared.Stepped.{Stepped}
 use Rattle.elements.specs.declared.Stepped.the-variants.{On, Stopped}
-use Rattle.elements.specs.Elements.{Reading, Read, refused, elements, fresh, partOf, byPiece, atEnd, turn, left, readFrom}
+use Rattle.elements.specs.Elements.{Reading, Read, refused, fresh, partOf, byPiece, atEnd, turn, left, readFrom}
 use Rattle.elements.specs.Walked.{reading, turnOf, readOf, refusalOf, stopOf, Sound, Steps}
 use Rattle.elements.proofs.Keeps.{never-on, piece-sound, turn-falls}
 

@@ -9,14 +9,13 @@ use borrow.Author.Tests.{lt-ltb, le-ltb, ltb-true, ltb-false}
 use lib.Dec.{ltb}
 use lib.ListN.{length, take, drop}
 use Rattle.scan.specs.Choice.{pick, _and_, not}
-use Rattle.scan.proofs.Tests.{never, or-true, and-left, and-right}
+use Rattle.scan.proofs.Tests.{never, or-true, and-left, and-right, not-passed}
 use Rattle.facts.specs.Strings.{equal}
 use Rattle.facts.proofs.StringLaws.{equal-is}
 use Rattle.lines.specs.Lines.{Row, field, fieldsOf, lineAt, lineEnd, rowsAt}
 use Rattle.rows.specs.Rows.{someRow, isOtherKey}
 use Rattle.index.specs.declared.Keys.{Keys}
 use Rattle.index.specs.SetKeys.{isOfSet, firstRow, keyAt, keysOf}
-use Rattle.index.proofs.Filling.{not-passed}
 
 module _ (p : Row → Bool) (s : List ℕ) where
   -- ---- the walk

@@ -1,5 +1,7 @@
-pub mod Hashing
-pub mod Chaining
-pub mod Filling
+pub mod Questions
+pub mod RowKeys
+pub mod Collecting
 pub mod Asking
+pub mod Searching
+pub mod Runs
 pub mod FirstRow

@@ -1,4 +1,4 @@
--- Worked examples of the hash and of the keys of a set id, which the checker computes.
+-- Worked examples of the keys of rows and of the keys of a set id, which the checker computes.
 -- Assumes nothing.
 use Prim.Native.Nat.{ℕ}
 use mathlib.Core.Bool.{true, false}
@@ -10,23 +10,20 @@ use Rattle.facts.specs.Strings.{equal}
 use Rattle.lines.specs.Lines.{Row, fieldsOf, rowsAt}
 use Rattle.rows.specs.declared.Question.{Question}
 use Rattle.rows.specs.Rows.{someRow, isOtherKey}
-use Rattle.index.specs.Hashes.{hashFrom, bucketOf}
-use Rattle.index.specs.Indexed.{keepsRow, bucketOfRow}
+use Rattle.ordering.specs.Fields.{part, after, shown, nextPlace, skipPlace, fieldsFrom, coded, rowKey}
+use Rattle.ordering.specs.Keys.{keyAt}
+use Rattle.index.specs.Indexed.{byOf, keepsRow, keyFrom, keyOf, keyPlace}
 use Rattle.index.specs.SetKeys.{isOfSet, firstRow, keysOf}
-
--- 97 · 16777619 + 98, and the case of letters says nothing
-hashes : map (hashFrom 0) (text "" ∷ text "a" ∷ text "ab" ∷ text "AB" ∷ []) ≡ 0 ∷ 97 ∷ 1627429141 ∷ 1627429141 ∷ []
-unfolding hashFrom
-hashes = refl
 
 abbrev row : Row
 row = text "51726-8" ∷ text "s" ∷ text "2" ∷ text "d1" ∷ text "1234" ∷ []
 
--- a row of a history has the bucket of its key, and is kept for another set id only
-keys : bucketOfRow Question.KeyElsewhere row ≡ bucketOf Question.KeyElsewhere [] (text "1234") []
-unfolding bucketOfRow bucketOf hashFrom
+-- what a row of a history is ordered by is its key, at byte 15 of it
+keys : keyAt (byOf Question.KeyElsewhere) (text "51726-8\ts\t2\td1\t1234\n") (keyPlace Question.KeyElsewhere (text "51726-8\ts\t2\td1\t1234\n") 0) ≡ keyOf Question.KeyElsewhere row
+unfolding keyPlace skipPlace nextPlace byOf rowKey fieldsFrom part shown after coded keyOf keyFrom
 keys = refl
 
+-- it is kept for another set id only
 kept : map (λ (set : List ℕ). keepsRow Question.KeyElsewhere (text "51726-8") set row) (text "u" ∷ text "s" ∷ []) ≡ true ∷ false ∷ []
 unfolding keepsRow equal pairs
 kept = refl

@@ -1,5 +1,3 @@
-pub mod Hashes
-pub mod Chains
 pub mod Indexed
 pub mod SetKeys
 pub mod Unique

@@ -1,24 +1,32 @@
-// The rows of a section in a hash table with chains, in a lent run of numbers: whether some row is what is asked for is read from one chain.
+// The rows of a section in order, in a lent run of numbers: whether some row is what is asked for is found by halving it. The run has first the number
+// of its rows, then for each the place where what it is ordered by starts.
 // The answer is that of `rows::some_row`, which walks all rows.
 ghost use mathlib.Core.Path.{_≡_};
-ghost use Prim.Native.Nat.{_+_, _*_, _<_, _≤_, _^_};
-ghost use lib.ListN.{length, getD};
+ghost use mathlib.Core.Bool.{true};
+ghost use mathlib.Core.List.{[], _∷_};
+ghost use lib.Dec.{eqb};
+ghost use Prim.Native.Nat.{_+_, _<_, _≤_, _^_};
+ghost use lib.ListN.{length, take, drop};
+ghost use Rattle.scan.specs.Lists.{some};
 ghost use Rattle.lines.specs.Lines.{fieldsOf, rowsAt};
 ghost use Rattle.rows.specs.Rows.{someRow, isAsked};
-ghost use Rattle.index.specs.Hashes.{hashFrom, bucketAt, bucketOf};
-ghost use Rattle.index.specs.Chains.{chained, stored, storedIf, Cleared};
-ghost use Rattle.index.specs.Indexed.{keepsRow, second, bucketOfRow, Indexed, Serves, Room};
+ghost use Rattle.ordering.specs.Order.{order};
+ghost use Rattle.ordering.specs.Fields.{part, shown, coded, rowKey};
+ghost use Rattle.ordering.specs.Keys.{keyAt};
+ghost use Rattle.sorting.specs.Sorting.{rising, Sorted};
+ghost use Rattle.index.specs.Indexed.{byOf, isIndexed, keepsRow, keyFrom, isKeyOf, keyPlace, Collected, Indexed, Serves, Room};
 
 mod others;
 
+use ordering::By;
+use ordering::Order;
+use ordering::skip;
 pub use others::has_other_key;
 pub use others::keys_of;
 use rows::Question;
 
-// The numbers that come first in a run, one for each bucket.
-const BUCKETS: usize = 16384;
 // A run that has room for 65,535 rows, the most that a section has.
-pub const SIZE: usize = 147454;
+pub const SIZE: usize = 65536;
 
 // Of the rows of a type and a set id: where the first starts, or the length of the file, and whether some row has another key than it.
 pub struct Keys {
@@ -26,61 +34,15 @@ pub struct Keys {
     pub several: bool,
 }
 
-// The hash h, gone on over the bytes of a string, each letter A to Z made small.
-fn hash(h: usize, bytes: &[u8]) -> usize
-    requires { ⌜ h < 2 ^ 32 ⌝ }
-    ensures { λ r. ⌜ r ≡ hashFrom h (now (bytes .entry)) ⌝ }
-{
-    let mut r = h;
-    let mut i = 0;
-    while i < bytes.len() {
-        r = (r * 16777619 + facts::lower_case(bytes[i]) as usize) % 4294967296;
-        i += 1;
-    }
-    r
-}
-
-// The bucket of a hash: its upper part, after one more product, so that the last bytes count.
-fn bucket(h: usize) -> usize
-    requires { ⌜ h < 2 ^ 32 ⌝ }
-    ensures { λ r. ⌜ r ≡ bucketAt h ⌝ }
-{
-    h * 2654435769 % 4294967296 / 262144
-}
-
-// The bucket of the values that are asked for.
-fn bucket_of(q: Question, a: &[u8], b: &[u8], c: &[u8]) -> usize
-    ensures { λ r. ⌜ r ≡ bucketOf q (now (a .entry)) (now (b .entry)) (now (c .entry)) ⌝ }
+// What the rows that a question asks for are ordered by.
+fn by(q: Question) -> By
+    ensures { λ r. ⌜ r ≡ byOf q ⌝ }
 {
     match q {
-        Question::Code => bucket(hash(hash(hash(0, a), b), c)),
-        Question::Name => bucket(hash(hash(0, a), b)),
-        Question::KeyElsewhere => bucket(hash(0, b)),
-        _ => 0,
+        Question::Code => By::Code,
+        Question::Name => By::Register,
+        _ => By::Key,
     }
-}
-
-// The number of the field that is compared with the second value.
-fn second(q: Question) -> usize
-    ensures { λ r. ⌜ r ≡ second q ⌝ }
-{
-    match q {
-        Question::KeyElsewhere => 4,
-        _ => 1,
-    }
-}
-
-// The bucket of a row.
-fn bucket_of_row(q: Question, line: &[u8]) -> usize
-    ensures { λ r. ⌜ r ≡ bucketOfRow q (fieldsOf (now (line .entry))) ⌝ }
-{
-    let k = second(q);
-    bucket_of(
-        q,
-        lines::field(line, 0),
-        lines::field(line, k),
-        lines::field(line, 2),
-    )
 }
 
 // Whether a row of a history is of this type, under another set id.
@@ -103,99 +65,129 @@ fn keeps(q: Question, line: &[u8], a: &[u8], c: &[u8]) -> bool
     }
 }
 
-// Puts row k, which starts at i, before the chain of bucket b.
-fn store(index: &mut [u32], b: usize, k: usize, i: usize)
-    requires { ⌜ (b < 16384) × (0 < k) × (16383 + 2 * k < length (now index)) × (k < 2 ^ 32) × (i < 2 ^ 32) ⌝ }
-    ensures { λ _. ⌜ now (index .exit) ≡ stored (now (index .entry)) b k i ⌝ }
+// Where that starts which a row is ordered by: its key, behind four fields, or the row itself.
+fn key_place(q: Question, s: &[u8], i: usize) -> usize
+    ensures { λ r. ⌜ r ≡ keyPlace q (now (s .entry)) i ⌝ }
 {
-    let head = index[b];
-    index[16382 + 2 * k] = i as u32;
-    index[16383 + 2 * k] = head;
-    index[b] = k as u32;
-}
-
-// Puts a line, row k of the section, which starts at i, before the chain of its bucket, where it is kept.
-fn put(q: Question, line: &[u8], k: usize, i: usize, a: &[u8], c: &[u8], index: &mut [u32])
-    requires { ⌜ (0 < k) × (16383 + 2 * k < length (now index)) × (k < 2 ^ 32) × (i < 2 ^ 32) ⌝ }
-    ensures { λ _. ⌜ now (index .exit) ≡ storedIf (keepsRow q (now (a .entry)) (now (c .entry)) (fieldsOf (now (line .entry)))) (now (index .entry)) (bucketOfRow q (fieldsOf (now (line .entry)))) k i ⌝ }
-{
-    if keeps(q, line, a, c) {
-        store(index, bucket_of_row(q, line), k, i);
+    match q {
+        Question::KeyElsewhere => skip(s, skip(s, skip(s, skip(s, i)))),
+        _ => i,
     }
 }
 
-// Makes all chains empty.
-fn clear(index: &mut [u32])
-    requires { ⌜ 16384 ≤ length (now index) ⌝ }
-    ensures { λ _. ⌜ Cleared (now (index .exit)) 16384 ⌝ }
+// Puts the places of the rows that are kept into a run, and answers their number.
+fn collect(
+    q: Question,
+    s: &[u8],
+    at: usize,
+    count: usize,
+    a: &[u8],
+    c: &[u8],
+    run: &mut [u32],
+) -> usize
+    requires { ⌜ (count ≤ length (now run)) × (length (now s) < 2 ^ 32) ⌝ }
+    ensures { λ r. ⌜ (r ≤ count) × Collected q (keepsRow q (now (a .entry)) (now (c .entry))) (now (s .entry)) at count (take r (now (run .exit))) ⌝ }
 {
-    let mut b = 0;
-    while b < BUCKETS {
-        index[b] = 0;
-        b += 1;
+    let mut n = 0;
+    let mut i = at;
+    let mut left = count;
+    while 0 < left {
+        if s.len() <= i {
+            return n;
+        }
+        let e = lines::line_end(s, i);
+        left -= 1;
+        if keeps(q, &s[i..e], a, c) {
+            run[n] = key_place(q, s, i) as u32;
+            n += 1;
+            i = e + 1;
+            continue;
+        }
+        i = e + 1;
     }
+    n
+}
+
+// Sorts the places of at most 65,535 rows.
+fn arrange(q: Question, s: &[u8], run: &mut [u32])
+    requires { ⌜ length (now run) ≤ 65535 ⌝ }
+    ensures { λ _. ⌜ Sorted (keyAt (byOf q) (now (s .entry))) (now (run .entry)) (now (run .exit)) ⌝ }
+{
+    let mut room = [0u32; 32768];
+    sorting::sort(by(q), s, run, &mut room);
 }
 
 // Indexes the rows of a section for a question. For the keys of a history, a is the type and c the set id that the questions have; for
-// the other questions they say nothing. What is left in the run is for `has_row` alone.
+// the other questions they say nothing. What is left in the run is for `some_row` alone.
 pub fn fill(q: Question, s: &[u8], at: usize, count: usize, a: &[u8], c: &[u8], index: &mut [u32])
-    requires { ⌜ Room (now s) count (now index) ⌝ }
-    ensures { λ _. ⌜ Indexed (keepsRow q (now (a .entry)) (now (c .entry))) (bucketOfRow q) (now (s .entry)) at count (now (index .exit)) ⌝ }
+    requires { ⌜ (isIndexed q ≡ true) × Room (now s) count (now index) ⌝ }
+    ensures { λ _. ⌜ Indexed q (keepsRow q (now (a .entry)) (now (c .entry))) (now (s .entry)) at count (now (index .exit)) ⌝ }
 {
-    clear(index);
-    let mut i = at;
-    let mut n = 0;
-    while n < count {
-        if s.len() <= i {
-            return;
-        }
-        let e = lines::line_end(s, i);
-        n += 1;
-        put(q, &s[i..e], n, i, a, c, index);
-        i = e + 1;
+    let n = collect(q, s, at, count, a, c, &mut index[1..]);
+    index[0] = n as u32;
+    arrange(q, s, &mut index[1..1 + n]);
+}
+
+// Which comes first: the field at a place, or a value.
+fn compare_value(s: &[u8], at: usize, value: &[u8], any: bool) -> Order
+    ensures { λ r. ⌜ r ≡ order (shown any (part true (drop at (now (s .entry))))) (shown any (now (value .entry))) ⌝ }
+{
+    ordering::compare_value(ordering::rest(s, at), value, any)
+}
+
+// Which comes first: the two fields at a place, or two values; the second in any case of letters where one field is folded.
+fn compare_two(s: &[u8], at: usize, a: &[u8], b: &[u8], folded: usize) -> Order
+    ensures { λ r. ⌜ r ≡ order (rowKey 2 folded (drop at (now (s .entry)))) (coded (shown (eqb 2 folded) (now (a .entry)) ∷ shown (eqb 1 folded) (now (b .entry)) ∷ [])) ⌝ }
+{
+    match compare_value(s, at, a, 2 == folded) {
+        Order::Less => Order::Less,
+        Order::More => Order::More,
+        Order::Same => compare_value(s, ordering::next_field(s, at + a.len()), b, 1 == folded),
     }
 }
 
-// The number at a place of a run, or 0 past its end.
-fn number(index: &[u32], i: usize) -> usize
-    ensures { λ r. ⌜ (r ≡ getD (now (index .entry)) i 0) × (r < 2 ^ 32) ⌝ }
+// Which comes first: the code, system and display name at a place, or three values.
+fn compare_code(s: &[u8], at: usize, a: &[u8], b: &[u8], c: &[u8]) -> Order
+    ensures { λ r. ⌜ r ≡ order (rowKey 3 1 (drop at (now (s .entry)))) (keyFrom Question.Code (now (a .entry)) (now (b .entry)) (now (c .entry))) ⌝ }
 {
-    if i < index.len() {
-        return index[i] as usize;
+    match compare_value(s, at, a, false) {
+        Order::Less => Order::Less,
+        Order::More => Order::More,
+        Order::Same => compare_two(s, ordering::next_field(s, at + a.len()), b, c, 1),
     }
-    0
 }
 
-// Whether a row of the chain from row k on is the row that is asked for.
-fn chain_has(
-    q: Question,
-    s: &[u8],
-    index: &[u32],
-    count: usize,
-    k: usize,
-    a: &[u8],
-    b: &[u8],
-    c: &[u8],
-) -> bool
-    requires { ⌜ k < 2 ^ 32 ⌝ }
-    ensures { λ r. ⌜ r ≡ someRow (isAsked q (now (a .entry)) (now (b .entry)) (now (c .entry))) (chained (now (index .entry)) (now (s .entry)) count k) ⌝ }
+// Which comes first: the row that has its place here, or the values that are asked for.
+fn compare_asked(q: Question, s: &[u8], at: usize, a: &[u8], b: &[u8], c: &[u8]) -> Order
+    ensures { λ r. ⌜ r ≡ order (keyAt (byOf q) (now (s .entry)) at) (keyFrom q (now (a .entry)) (now (b .entry)) (now (c .entry))) ⌝ }
 {
-    let mut link = k;
-    let mut left = count;
-    while 0 < left {
-        if link == 0 {
-            return false;
+    match q {
+        Question::Code => compare_code(s, at, a, b, c),
+        Question::Name => compare_two(s, at, a, b, 0),
+        _ => compare_value(s, at, b, false),
+    }
+}
+
+// Whether one of the places, which are in order, is that of a row with the values that are asked for.
+fn search(q: Question, s: &[u8], run: &[u32], a: &[u8], b: &[u8], c: &[u8]) -> bool
+    requires { ⌜ rising (keyAt (byOf q) (now s)) (now run) ≡ true ⌝ }
+    ensures { λ r. ⌜ r ≡ some (isKeyOf q (now (s .entry)) (keyFrom q (now (a .entry)) (now (b .entry)) (now (c .entry)))) (now (run .entry)) ⌝ }
+{
+    let mut low = 0;
+    let mut high = run.len();
+    while low < high {
+        let middle = low + (high - low) / 2;
+        match compare_asked(q, s, run[middle] as usize, a, b, c) {
+            Order::Less => {
+                low = middle + 1;
+                continue;
+            }
+            Order::More => {
+                high = middle;
+                continue;
+            }
+            Order::Same => return true,
         }
-        let i = number(index, 16382 + 2 * link);
-        if s.len() <= i {
-            return false;
-        }
-        let e = lines::line_end(s, i);
-        if rows::is_asked(q, &s[i..e], a, b, c) {
-            return true;
-        }
-        link = number(index, 16383 + 2 * link);
-        left -= 1;
     }
     false
 }
@@ -211,11 +203,11 @@ fn has_row(
     b: &[u8],
     c: &[u8],
 ) -> bool
-    requires { ⌜ Indexed (keepsRow q (now a) (now c)) (bucketOfRow q) (now s) at count (now index) ⌝ }
+    requires { ⌜ Indexed q (keepsRow q (now a) (now c)) (now s) at count (now index) ⌝ }
     ensures { λ r. ⌜ r ≡ someRow (isAsked q (now (a .entry)) (now (b .entry)) (now (c .entry))) (rowsAt (now (s .entry)) at count) ⌝ }
 {
-    let head = number(index, bucket_of(q, a, b, c));
-    chain_has(q, s, index, count, head, a, b, c)
+    let n = index[0] as usize;
+    search(q, s, &index[1..1 + n], a, b, c)
 }
 
 // The same of a section whose index stands in a run; where the run is empty, along all rows.
@@ -229,7 +221,7 @@ pub fn some_row(
     b: &[u8],
     c: &[u8],
 ) -> bool
-    requires { ⌜ Serves (keepsRow q (now a) (now c)) (bucketOfRow q) (now s) at count (now index) ⌝ }
+    requires { ⌜ Serves q (keepsRow q (now a) (now c)) (now s) at count (now index) ⌝ }
     ensures { λ r. ⌜ r ≡ someRow (isAsked q (now (a .entry)) (now (b .entry)) (now (c .entry))) (rowsAt (now (s .entry)) at count) ⌝ }
 {
     if 0 < index.len() {

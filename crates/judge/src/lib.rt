@@ -88,7 +88,7 @@ fn judge_served(
     marks: &mut [u64],
     list: &mut [u32],
 ) -> Answer
-    requires { ⌜ (length (now elements) / 4 ≤ length (now marks)) × (length (now marks) ≤ 16384) × (isLarge asked (length (now tables)) places ≡ true) × (147454 ≤ length (now codes)) × (147454 ≤ length (now names)) × (147454 ≤ length (now keys)) ⌝ }
+    requires { ⌜ (length (now elements) / 4 ≤ length (now marks)) × (length (now marks) ≤ 16384) × (isLarge asked (length (now tables)) places ≡ true) × (65536 ≤ length (now codes)) × (65536 ≤ length (now names)) × (65536 ≤ length (now keys)) ⌝ }
     ensures { λ r. ⌜ (r ≡ answerIn (findingsOf (draft (now (document .entry)) (now (elements .entry)) (now (roles .entry)) kind) (tablesAt (now (tables .entry)) places)) (now (list .entry))) × (now (list .exit) ≡ listIn (findingsOf (draft (now (document .entry)) (now (elements .entry)) (now (roles .entry)) kind) (tablesAt (now (tables .entry)) places)) (now (list .entry))) ⌝ }
 {
     let served = serving::serve(
@@ -132,9 +132,9 @@ fn judge_indexed(
     requires { ⌜ (length (now elements) / 4 ≤ length (now marks)) × (length (now marks) ≤ 16384) × (isLarge asked (length (now tables)) places ≡ true) ⌝ }
     ensures { λ r. ⌜ (r ≡ answerIn (findingsOf (draft (now (document .entry)) (now (elements .entry)) (now (roles .entry)) kind) (tablesAt (now (tables .entry)) places)) (now (list .entry))) × (now (list .exit) ≡ listIn (findingsOf (draft (now (document .entry)) (now (elements .entry)) (now (roles .entry)) kind) (tablesAt (now (tables .entry)) places)) (now (list .entry))) ⌝ }
 {
-    let mut codes = [0u32; 147454];
-    let mut names = [0u32; 147454];
-    let mut keys = [0u32; 147454];
+    let mut codes = [0u32; 65536];
+    let mut names = [0u32; 65536];
+    let mut keys = [0u32; 65536];
     judge_served(
         document,
         elements,

@@ -59,11 +59,11 @@ abbrev noTab : ℕ → Bool
 noTab = other 9
 
 -- the first field, and the others, of one byte more
-first-more : (b : ℕ) (fs : Row) → field (inFirst b fs) 0 ≡ b ∷ field fs 0
+pub first-more : (b : ℕ) (fs : Row) → field (inFirst b fs) 0 ≡ b ∷ field fs 0
 first-more b [] = refl
 first-more b (f ∷ fs) = refl
 
-later-more : (b k : ℕ) (fs : Row) → field (inFirst b fs) (suc k) ≡ field fs (suc k)
+pub later-more : (b k : ℕ) (fs : Row) → field (inFirst b fs) (suc k) ≡ field fs (suc k)
 later-more b k [] = refl
 later-more b k (f ∷ fs) = refl
 

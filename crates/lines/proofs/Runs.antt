@@ -44,10 +44,6 @@ line-within s i e p h = within 10 s i e p (omega arith)
 pub line-fits : (s : List ℕ) (i e : ℕ) → e ≡ lineEnd s i → i < length s → length s * 1 < 2 ^ 63 → Fits w64 (e + 1)
 line-fits s i e p h g = omega (arith, line-within s i e p h)
 
--- what is left behind it is less
-pub line-less : (s : List ℕ) (i e : ℕ) → e ≡ lineEnd s i → i < length s → length s - (e + 1) < length s - i
-line-less s i e p h = omega (arith, ahead 10 s i e p)
-
 -- what stands before the end of a run
 unfoldable pub front : (ℕ → Bool) → List ℕ → List ℕ
 front p [] = []

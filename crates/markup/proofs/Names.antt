@@ -3,7 +3,7 @@
 use mathlib.Core.Path.{_≡_}
 use mathlib.Core.Bool.{Bool, true, false}
 use mathlib.Core.List.{List}
-use Prim.Native.Nat.{ℕ, _≤_}
+use Prim.Native.Nat.{ℕ, _+_, _<_, _≤_}
 use native.Mathlib.Omega.{arith}
 use lib.ListN.{length, getD, List·getD-eq-default}
 use Rattle.scan.specs.Lists.{runFrom}
@@ -38,3 +38,15 @@ module _ (s : List ℕ) (at : ℕ) where
   pub name-most : at ≤ length s → nameEnd s at ≤ length s
   unfolding nameEnd
   name-most h = pick-case (λ r. r ≤ length s) (isNameStart (getD s at 0)) _ _ (λ _. run-most isNameChar s at h) (λ _. h)
+
+  -- the same of a name whose end was told
+  module _ (r : ℕ) (e : r ≡ nameEnd s at) where
+    pub name-ahead : at ≤ r
+    name-ahead = omega (arith, name-least)
+
+    pub name-inside : at ≤ length s → r ≤ length s
+    name-inside h = omega (arith, name-most h)
+
+-- behind the first byte of a tag the document goes on, or ends
+pub name-there : (s : List ℕ) (f : ℕ) → f < length s → f + 1 ≤ length s
+name-there s f h = omega arith

@@ -9,8 +9,8 @@ use native.Mathlib.Omega.{arith}
 use borrow.Author.Tests.{eq-eqb, ne-eqb, eqb-true, eqb-false}
 use lib.Dec.{eqb}
 use lib.ListN.{set}
-use Rattle.scan.specs.Choice.{_or_, not}
-use Rattle.scan.proofs.Tests.{never, and-right}
+use Rattle.scan.specs.Choice.{not}
+use Rattle.scan.proofs.Tests.{never, and-right, or-left, or-right}
 use Rattle.scan.proofs.Within.{inside}
 use Rattle.elements.specs.Elements.{Reading, fresh, row, parentOf, firstOf, afterOf, passed, added, closed}
 use Rattle.elements.specs.Walked.{Sound}
@@ -43,14 +43,6 @@ split a b {A} f g = go (eqb a b) refl
     go : (t : Bool) → eqb a b ≡ t → A
     go true q = f (eqb-true a b q)
     go false q = g (eqb-false a b q)
-
-or-left : (a b : Bool) → a or b ≡ false → a ≡ false
-or-left true b e = never e
-or-left false b e = refl
-
-or-right : (a b : Bool) → a or b ≡ false → b ≡ false
-or-right true b e = never e
-or-right false b e = e
 
 -- the innermost open element is open
 top-open : (rows : List ℕ) (depth top : ℕ) → 0 < depth → isOpen rows depth top top ≡ false → ⊥

@@ -7,7 +7,7 @@ use Prim.Native.Nat.{ℕ, zero, suc, _+_, _-_, _/_, _<_, _≤_}
 use native.Mathlib.Numerals.{add-one}
 use native.Mathlib.Nat.{zero-add}
 use native.Mathlib.Omega.{arith}
-use lib.ListN.{length, take, drop, getD, set, drop-of-length-le, List·getD-append}
+use lib.ListN.{length, take, drop, getD, set, drop-of-length-le}
 use lib.Dec.{ltb}
 use borrow.Author.Tests.{ltb-true}
 use lib.Seq.{paste-suc, take-all, take-append-seam, getD-take, take-at, length-take-le}
@@ -191,9 +191,6 @@ module _ (s rows : List ℕ) (t : DocumentType) where
     pub filled-is : filled s rows t old ≡ rolesOf s rows t ++ drop (length rows / 4) old
     unfolding filled
     filled-is = rw (take-all (length old) (rolesOf s rows t) (omega (arith, roles-length)))
-
-    pub filled-at : (k : ℕ) → k < length rows / 4 → getD (filled s rows t old) k 0 ≡ roleNumber (roleOf s rows t k)
-    filled-at k g = rw (filled-is, List·getD-append (rolesOf s rows t) (drop (length rows / 4) old) 0 k (rw roles-length g)) (roles-at k g)
 
     pub filled-front : take (length rows / 4) (filled s rows t old) ≡ rolesOf s rows t
     filled-front = rw (filled-is, ← roles-length) (take-append-seam (rolesOf s rows t) (drop (length (rolesOf s rows t)) old))

@@ -11,6 +11,11 @@ use Rattle.scan.specs.Choice.{pick, _or_, _and_, between}
 pub never : {A : Type 0} → true ≡ false → A
 never e = absurd (let z : _≡_ {A = ℕ} 0 1 = cc in omega arith)
 
+-- a test that is not passed
+pub not-passed : (t : Bool) → (t ≡ true → ⊥) → t ≡ false
+not-passed true f = absurd (f refl)
+not-passed false f = refl
+
 -- a choice has what both of its sides have
 pub pick-case : {A : Type 0} (P : A → Type 0) (t : Bool) (x y : A) → (t ≡ true → P x) → (t ≡ false → P y) → P (pick t x y)
 pick-case P true x y f g = f refl
@@ -27,6 +32,14 @@ or-true false = refl
 pub or-false : (a : Bool) → a or false ≡ a
 or-false true = refl
 or-false false = refl
+
+pub or-left : (a b : Bool) → a or b ≡ false → a ≡ false
+or-left true b e = never e
+or-left false b e = refl
+
+pub or-right : (a b : Bool) → a or b ≡ false → b ≡ false
+or-right true b e = never e
+or-right false b e = e
 
 pub and-true : (a : Bool) → a and true ≡ a
 and-true true = refl

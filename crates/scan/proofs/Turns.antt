@@ -1,8 +1,8 @@
 -- The laws of a walk with a state: where the measure falls at each turn, one turn more or less changes nothing, so the walk
 -- from a state is the walk from the next.
 -- Assumes nothing.
-use mathlib.Core.Path.{_≡_, refl, sym, _∙_, ap}
-use Prim.Native.Nat.{ℕ, zero, suc, _<_, _≤_}
+use mathlib.Core.Path.{_≡_, refl}
+use Prim.Native.Nat.{ℕ, zero, suc, _<_}
 use native.Mathlib.Omega.{arith}
 use Rattle.scan.specs.Turns.{Turn, on, out, turns, run}
 

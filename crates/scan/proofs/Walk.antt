@@ -1,6 +1,6 @@
 -- The laws of a walk: where it goes on, where it is done, and at the end.
 -- Assumes nothing.
-use mathlib.Core.Path.{_≡_, refl, _∙_, ap, sym}
+use mathlib.Core.Path.{_≡_, refl, _∙_, ap}
 use Prim.Native.Nat.{ℕ, zero, suc, _+_, _-_, _<_, _≤_}
 use native.Mathlib.Omega.{arith}
 use Rattle.scan.specs.Walk.{Next, skip, done, walk, from}

@@ -5,12 +5,17 @@ use mathlib.Core.Bool.{Bool, true, false}
 use mathlib.Core.List.{List, [], _∷_}
 use lib.Dec.{eqb}
 use lib.ListN.{drop}
-use Rattle.scan.specs.Choice.{pick, _and_}
+use Rattle.scan.specs.Choice.{pick, _or_, _and_}
 
 -- each element has the property
 unfoldable pub every : (ℕ → Bool) → List ℕ → Bool
 every p [] = true
 every p (x ∷ xs) = p x and every p xs
+
+-- some element has the property
+unfoldable pub some : (ℕ → Bool) → List ℕ → Bool
+some p [] = false
+some p (x ∷ xs) = p x or some p xs
 
 -- as many elements on both sides, and each pair satisfies the test
 unfoldable pub pairs : (ℕ → ℕ → Bool) → List ℕ → List ℕ → Bool

@@ -1,9 +1,9 @@
 -- What is filled serves: the values that the runs are filled for are those of the draft, and the places are the same.
 -- Assumes nothing.
-use mathlib.Core.Path.{_≡_, refl, sym, _∙_, ap}
-use mathlib.Core.Bool.{Bool, true, false}
+use mathlib.Core.Path.{_≡_, refl}
+use mathlib.Core.Bool.{true, false}
 use mathlib.Core.List.{List, []}
-use Prim.Native.Nat.{ℕ, _+_, _*_, _<_, _≤_, _^_}
+use Prim.Native.Nat.{ℕ, _*_, _<_, _≤_}
 use native.Mathlib.Nat.{mul-le-mul-right}
 use native.Mathlib.Omega.{arith}
 use borrow.Author.Tests.{le-leb, lt-leb, leb-true}
@@ -13,12 +13,11 @@ use mir.Val.{Fits}
 use mir.Syntax.{w64}
 use Rattle.scan.specs.Choice.{_and_}
 use Rattle.scan.specs.Bytes.{text}
-use Rattle.scan.specs.declared.Found.{Found}
 use Rattle.scan.specs.declared.Found.the-variants.{At, Nothing}
-use Rattle.scan.proofs.Tests.{and-left, and-right, and-false}
+use Rattle.scan.proofs.Tests.{and-left, and-right}
 use Rattle.rows.specs.declared.Question.the-variants.{Code, Name, KeyElsewhere}
 use Rattle.index.specs.declared.Keys.{Keys}
-use Rattle.index.specs.Indexed.{keepsRow, bucketOfRow, Indexed, Room}
+use Rattle.index.specs.Indexed.{isIndexed, keepsRow, Indexed, Room}
 use Rattle.index.specs.SetKeys.{keysOf}
 use Rattle.values.specs.Attributes.{attributeOf}
 use Rattle.paths.specs.declared.DocumentType.{DocumentType}
@@ -67,7 +66,7 @@ module _ (count n : ℕ) (p : Places) where
           by-product h = rw (le-leb count 16384 a, le-leb n 1048576 b, le-leb (p .ncodes) 65535 c, le-leb (p .nnames) 65535 e, le-leb (p .nhistory) 65535 h)
 
 -- what a size that is worth it is within
-module _ (count : ℕ) (s : List ℕ) (p : Places) (x : List ℕ) (h : isLarge count (length s) p ≡ true) (l : 147454 ≤ length x) where
+module _ (count : ℕ) (s : List ℕ) (p : Places) (x : List ℕ) (h : isLarge count (length s) p ≡ true) (l : 65536 ≤ length x) where
   rest : leb (length s) 1048576 and leb (p .ncodes) 65535 and leb (p .nnames) 65535 and leb (p .nhistory) 65535 and ltb 8388608 (count * length s) ≡ true
   unfolding isLarge
   rest = and-right (leb count 16384) (leb (length s) 1048576 and leb (p .ncodes) 65535 and leb (p .nnames) 65535 and leb (p .nhistory) 65535 and ltb 8388608 (count * length s)) h
@@ -96,8 +95,22 @@ module _ (count : ℕ) (s : List ℕ) (p : Places) (x : List ℕ) (h : isLarge c
   pub keys-fit : Fitting s (p .nhistory) x
   keys-fit = fits (p .nhistory) (leb-true (p .nhistory) 65535 (and-left (leb (p .nhistory) 65535) (ltb 8388608 (count * length s)) last))
 
-pub has-room : (s : List ℕ) (n : ℕ) (x : List ℕ) → Fitting s n x → Room s n x
-has-room s n x f = record { long = f .0; few = omega (arith, f .1); small = omega (arith, f .2) }
+-- the three questions are indexed, and a run that fits has room
+module _ (s : List ℕ) (n : ℕ) (x : List ℕ) (f : Fitting s n x) where
+  room : Room s n x
+  room = record { long = f .0; few = f .1; small = omega (arith, f .2) }
+
+  pub asks-code : (isIndexed Code ≡ true) × Room s n x
+  unfolding isIndexed
+  asks-code = (refl, room)
+
+  pub asks-name : (isIndexed Name ≡ true) × Room s n x
+  unfolding isIndexed
+  asks-name = (refl, room)
+
+  pub asks-key : (isIndexed KeyElsewhere ≡ true) × Room s n x
+  unfolding isIndexed
+  asks-key = (refl, room)
 
 -- ---- the setId
 module _ (d : Draft) (h : Header) (e : h ≡ headerOf d) where
@@ -109,7 +122,7 @@ module _ (d : Draft) (h : Header) (e : h ≡ headerOf d) where
 
 -- ---- the keys
 module _ (s rows roles : List ℕ) (t : DocumentType) (n f : ℕ) (e : f ≡ first (draft s rows roles t) n) (v : List ℕ) (g : v ≡ attributeOf s f (text "root")) (u : List ℕ) (p : Places) where
-  pub keys-filled : (c x : List ℕ) → Indexed (keepsRow KeyElsewhere c v) (bucketOfRow KeyElsewhere) u (p .history) (p .nhistory) x → KeysServed c (attribute (draft s rows roles t) n (text "root")) u p x
+  pub keys-filled : (c x : List ℕ) → Indexed KeyElsewhere (keepsRow KeyElsewhere c v) u (p .history) (p .nhistory) x → KeysServed c (attribute (draft s rows roles t) n (text "root")) u p x
   keys-filled c x l = record { index = λ _. rw (← (attribute-read s rows roles t n f e (text "root") v g)) l }
 
   pub keys-told : (k : Keys) → k ≡ keysOf requestCode v u (p .history) (p .nhistory) → record { codes = p .codes; ncodes = p .ncodes; names = p .names; nnames = p .nnames; history = p .history; nhistory = p .nhistory; set = n; first = k .first; several = k .several } ≡ toldAt (draft s rows roles t) u p n
@@ -135,13 +148,6 @@ module _ (d : Draft) (n m : ℕ) (e : n ≡ m) (u : List ℕ) (p : Places) where
   keys-of-set c x l = rw (← e) l
 
 -- ---- all of them
-module _ (u : List ℕ) (p : Places) (x : List ℕ) where
-  pub codes-filled : Indexed (keepsRow Code [] []) (bucketOfRow Code) u (p .codes) (p .ncodes) x → CodesServed u p x
-  codes-filled l = record { index = λ _. l }
-
-  pub names-filled : Indexed (keepsRow Name [] []) (bucketOfRow Name) u (p .names) (p .nnames) x → NamesServed u p x
-  names-filled l = record { index = λ _. l }
-
 module _ (s rows roles : List ℕ) (t : DocumentType) (u : List ℕ) (p : Places) (n : ℕ) (r : Places) (e : r ≡ toldAt (draft s rows roles t) u p n) where
   pub same-tables : tablesAt u r ≡ tablesAt u p
   unfolding toldAt

@@ -1,13 +1,12 @@
 -- When the rows are indexed, and what is told of the history's keys.
 -- Assumes nothing.
-use Prim.Native.Nat.{ℕ, _+_, _*_, _≤_}
+use Prim.Native.Nat.{ℕ, _+_, _*_, _<_, _≤_}
 use mathlib.Core.Bool.{Bool}
 use mathlib.Core.List.{List, [], _∷_}
 use lib.Dec.{eqb, leb, ltb}
 use lib.ListN.{length}
 use Rattle.scan.specs.Choice.{pick, _and_, _or_, between}
 use Rattle.scan.specs.Bytes.{text}
-use Rattle.index.specs.declared.Keys.{Keys}
 use Rattle.index.specs.SetKeys.{keysOf}
 use Rattle.paths.specs.declared.Role.the-variants.{Code, OrganisationId, OrganisationName, OperationCode}
 use Rattle.paths.specs.Roles.{roleNumber}
@@ -15,7 +14,8 @@ use Rattle.drafts.specs.Drafts.{Draft, attribute}
 use Rattle.header.specs.Header.{requestCode}
 use Rattle.answers.specs.declared.Places.{Places}
 
--- a role whose elements can ask for a row: codes, and the ids and names of organisations
+-- a role whose elements can ask for a row: codes, and the ids and names of organisations. Of all others only the id, the setId and the version ask,
+-- once for a document each
 unfoldable pub asks : ℕ → Bool
 asks r = eqb r (roleNumber Code) or eqb r (roleNumber OperationCode) or between (roleNumber OrganisationId) (roleNumber OrganisationName) r
 
@@ -32,7 +32,7 @@ isLarge count n p =
 
 -- a run has room for so many rows of the tables
 abbrev pub Fitting : List ℕ → ℕ → List ℕ → Type 0
-Fitting s count x = (16384 + 2 * count ≤ length x) × (count ≤ 65535) × (length s ≤ 1048576)
+Fitting s count x = (count < length x) × (count ≤ 65535) × (length s ≤ 1048576)
 
 -- the places, with the keys of the set id of element `set`
 unfoldable pub toldAt : Draft → List ℕ → Places → ℕ → Places

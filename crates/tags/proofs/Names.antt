@@ -14,7 +14,7 @@ use Rattle.scan.specs.Choice.{_and_, not}
 use Rattle.scan.specs.Lists.{stands, runFrom}
 use Rattle.scan.proofs.Tests.{pick-case, and-false, and-true}
 use Rattle.scan.proofs.Within.{inside}
-use Rattle.scan.proofs.Lists.{run-least, run-most}
+use Rattle.scan.proofs.Lists.{run-least}
 use Rattle.markup.specs.Names.{nameEnd}
 use Rattle.markup.proofs.Names.{name-least, name-most}
 use Rattle.tags.specs.Names.{isElementStart, isElementChar, elementEnd, nameAt, nameIs}
@@ -45,10 +45,6 @@ module _ (s : List ℕ) (at : ℕ) where
   unfolding elementEnd
   element-least = pick-case (λ r. at ≤ r) (isElementStart (getD s at 0)) _ _ (λ _. run-least isElementChar s at) (λ _. omega arith)
 
-  pub element-most : at ≤ length s → elementEnd s at ≤ length s
-  unfolding elementEnd
-  element-most h = pick-case (λ r. r ≤ length s) (isElementStart (getD s at 0)) _ _ (λ _. run-most isElementChar s at h) (λ _. h)
-
 -- ---- a given text
 module _ (t s : List ℕ) (at : ℕ) (u : Bool) (eu : u ≡ stands t s at) where
   pub text-differs : u ≡ false → false ≡ nameIs t s at
@@ -75,9 +71,6 @@ module _ (t s : List ℕ) (at n : ℕ) (en : n ≡ nameEnd s at) where
 
 -- ---- the name at a position, as the part of s up to its end
 module _ (s : List ℕ) (b e : ℕ) (ee : e ≡ nameEnd s b) where
-  pub name-ahead : b ≤ e
-  name-ahead = rw ee (name-least s b)
-
   pub name-part : nameAt s b ≡ take (e - b) (drop b s)
   name-part = rw ee
 

@@ -8,12 +8,12 @@ use native.Mathlib.Omega.{arith}
 use lib.Dec.{eqb, eqb·zero-suc, eqb·suc-zero, eqb·suc-suc}
 use lib.ListN.{length, take, drop, length-drop}
 use Rattle.scan.specs.Choice.{_or_, _and_}
-use Rattle.scan.specs.Lists.{pairs, begins}
+use Rattle.scan.specs.Lists.{some as someOf, pairs, begins}
 use Rattle.scan.proofs.Tests.{and-false}
 use Rattle.scan.proofs.Within.{inside}
 use Rattle.markup.specs.Names.{nameEnd}
 use Rattle.markup.proofs.Names.{name-past, name-most}
-use Rattle.distinct.specs.Repeats.{isCalled, some as someOf, twice}
+use Rattle.distinct.specs.Repeats.{isCalled, twice}
 use Rattle.tags.specs.Names.{nameAt, nameIs}
 use Rattle.tags.specs.Tags.{some, someNamed, repeated}
 

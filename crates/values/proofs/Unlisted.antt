@@ -4,21 +4,21 @@
 use mathlib.Core.Path.{_≡_, refl, sym, _∙_}
 use mathlib.Core.Bool.{Bool, true, false}
 use mathlib.Core.List.{List, [], _∷_}
-use Prim.Native.Nat.{ℕ, _+_, _-_, _<_, _≤_}
+use Prim.Native.Nat.{ℕ, _+_, _-_, _<_}
 use Prim.Native.Char.{code}
 use native.Mathlib.Omega.{arith}
 use borrow.Author.Tests.{eq-eqb, ltb-false, eqb-true}
-use lib.Dec.{eqb, ltb, leb}
-use lib.ListN.{length, getD, take, drop}
-use Rattle.scan.specs.Choice.{_or_, _and_, not}
+use lib.Dec.{eqb, leb}
+use lib.ListN.{length, getD, drop}
+use Rattle.scan.specs.Choice.{_or_}
 use Rattle.scan.specs.Lists.{begins, stands, pairs}
-use Rattle.scan.proofs.Tests.{never, pick-case, and-left, and-right, and-true}
+use Rattle.scan.proofs.Tests.{never, pick-case, and-left, and-right, and-true, or-left, or-right}
 use Rattle.scan.proofs.Lists.{run-stops}
 use Rattle.scan.proofs.Within.{there}
 use Rattle.facts.specs.Strings.{equal, isOneOf}
 use Rattle.markup.specs.Names.{isSpace, spaceEnd, nameEnd}
 use Rattle.reader.specs.Limits.{valueLimit}
-use Rattle.references.specs.Decoded.{replaced, decoded}
+use Rattle.references.specs.Decoded.{replaced}
 use Rattle.tags.specs.declared.Attribute.{Attribute}
 use Rattle.tags.specs.declared.Attribute.the-variants.{At as Attribute-at, Nothing as NoAttribute}
 use Rattle.tags.specs.declared.Part.the-variants.{Ended}
@@ -26,7 +26,7 @@ use Rattle.tags.specs.declared.Tag.the-variants.{Start}
 use Rattle.tags.specs.Names.{nameIs}
 use Rattle.tags.specs.Attributes.{attributeAt}
 use Rattle.tags.specs.Rows.{items}
-use Rattle.tags.specs.Tags.{partAt, attributes, some}
+use Rattle.tags.specs.Tags.{some}
 use Rattle.tags.proofs.Parts.{part-start, attributes-stop}
 use Rattle.values.specs.declared.Place.the-variants.{At, Nothing}
 use Rattle.values.specs.Attributes.{nameAfter, isBare, attributesOf, valuePlace, firstNamed, attributePlace, valueAt, attributeOf, hasValue, isListed, isOther, hasOther}
@@ -69,14 +69,6 @@ unfolding nameIs
 one-name t u s b e f =
     let l : length t ≡ length u = sym (eqb-true (nameEnd s b - b) (length t) (and-right (stands t s b) _ e)) ∙ eqb-true (nameEnd s b - b) (length u) (and-right (stands u s b) _ f) in
     same-text t u (drop b s) (and-left (stands t s b) _ e) (and-left (stands u s b) _ f) l
-
-or-left : (a b : Bool) → a or b ≡ false → a ≡ false
-or-left true b e = never e
-or-left false b e = refl
-
-or-right : (a b : Bool) → a or b ≡ false → b ≡ false
-or-right true b e = never e
-or-right false b e = e
 
 not-listed : (names : List (List ℕ)) (name s : List ℕ) (b : ℕ) → isOneOf names name ≡ false → nameIs name s b ≡ true → isListed names s b ≡ false
 unfolding isListed isOneOf

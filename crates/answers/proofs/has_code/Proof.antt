@@ -2,7 +2,7 @@
 -- Assumes nothing.
 use Rattle.values.proofs.Views.{plain-attribute-ahead, plain-attribute-inside, plain-attribute-says}
 use Rattle.answers.proofs.Asked.{code-asked}
-use Rattle.index.proofs.Asking.{any-code}
+use Rattle.index.proofs.Runs.{any-code}
 use Rattle.rows.specs.Rows.{isAsked}
 use borrow.Author.Needs.{needs}
 use Rattle.answers.proofs.has_code.Statement.{statement}

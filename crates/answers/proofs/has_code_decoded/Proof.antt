@@ -1,7 +1,7 @@
 -- `answers::has_code_decoded` meets its contract.
 -- Assumes nothing.
 use Rattle.answers.proofs.Asked.{code-asked}
-use Rattle.index.proofs.Asking.{any-code}
+use Rattle.index.proofs.Runs.{any-code}
 use Rattle.rows.specs.Rows.{isAsked}
 use borrow.Author.Needs.{needs}
 use Rattle.answers.proofs.has_code_decoded.Statement.{statement}

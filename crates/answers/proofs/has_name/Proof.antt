@@ -3,7 +3,7 @@
 use Rattle.values.proofs.Views.{plain-attribute-ahead, plain-attribute-inside, plain-attribute-says}
 use Rattle.values.proofs.Texts.{plain-text-ahead, plain-text-inside, plain-text-says}
 use Rattle.answers.proofs.Asked.{name-asked}
-use Rattle.index.proofs.Asking.{any-name}
+use Rattle.index.proofs.Runs.{any-name}
 use Rattle.rows.specs.Rows.{isAsked}
 use borrow.Author.Needs.{needs}
 use Rattle.answers.proofs.has_name.Statement.{statement}

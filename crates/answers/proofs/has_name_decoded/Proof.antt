@@ -1,7 +1,7 @@
 -- `answers::has_name_decoded` meets its contract.
 -- Assumes nothing.
 use Rattle.answers.proofs.Asked.{name-asked}
-use Rattle.index.proofs.Asking.{any-name}
+use Rattle.index.proofs.Runs.{any-name}
 use Rattle.rows.specs.Rows.{isAsked}
 use borrow.Author.Needs.{needs}
 use Rattle.answers.proofs.has_name_decoded.Statement.{statement}

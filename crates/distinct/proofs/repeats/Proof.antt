@@ -8,6 +8,9 @@ use Rattle.distinct.proofs.repeats.Tie as tie
 sort-requires : tie.Need-sort-requires
 sort-requires c κs = search needs
 
+has-same-neighbours-requires : tie.Need-has-same-neighbours-requires
+has-same-neighbours-requires c κs = search needs
+
 same-length : tie.Need-same-length
 same-length c = search needs
 
@@ -18,4 +21,6 @@ returns : tie.Need-returns
 returns c = search sorted-decides
 
 pub repeats-spec : {M : Type 1} → statement M
-repeats-spec = tie.close (tie.spec sort-requires same-length same-length-2 returns)
+repeats-spec =
+    tie.close
+    (tie.spec sort-requires has-same-neighbours-requires same-length same-length-2 returns)

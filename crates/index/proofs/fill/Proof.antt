@@ -1,88 +1,63 @@
--- `index::fill` meets its contract. The invariant: the rows passed stand in the chains of their buckets, and the rest is to be told of.
+-- `index::fill` meets its contract: the number of the places goes in front of them, and the part that they fill is sorted.
 -- Assumes nothing.
-use Prim.Native.Nat.{_-_}
-use lib.ListN.{length}
-use mathlib.Core.Path.{_≡_, refl, _∙_}
-use native.Mathlib.Omega.{arith}
+use Rattle.index.proofs.Runs.{part-fits, run-length, filled}
 use borrow.Author.Needs.{needs}
-use Rattle.lines.proofs.Runs.{ahead, line-within, line-fits}
-use Rattle.index.specs.Indexed.{keepsRow, bucketOfRow}
-use Rattle.index.proofs.Hashing.{row-low}
-use Rattle.index.proofs.Filling.{Filling, filling-start, filling-over, filling-past, filling-next}
 use Rattle.index.proofs.fill.Statement.{statement}
 use Rattle.index.proofs.fill.Tie as tie
 
-abbrev Inv-loop : tie.InvT-loop
-Inv-loop q s at count a c index₀ i₀ n₀ index i n = Filling (keepsRow q a c) (bucketOfRow q) s at count index i n × (length index ≡ length index₀)
+sub-collect : tie.Need-sub-collect
+sub-collect c = search needs
 
-abbrev μ-loop : tie.MeasureT-loop
-μ-loop q s at count a c index₀ i₀ n₀ index i n = count - n
+part-collect-start : tie.Need-part-collect-start
+part-collect-start c = search needs
 
-clear-requires : tie.Need-clear-requires Inv-loop μ-loop
-clear-requires c κs = search needs
+part-collect-end : tie.Need-part-collect-end
+part-collect-end c = search needs
 
-loop-holds : tie.Need-loop-holds Inv-loop μ-loop
-loop-holds c =
-    let clear = c .before .before .clear in
-    (filling-start _ _ _ _ _ _ (omega (arith, clear .kept .0)) (clear .ensures), refl)
+collect-requires : tie.Need-collect-requires
+collect-requires c κs = search needs
 
-same-length : tie.Need-same-length Inv-loop μ-loop
-same-length c = c .before .before .loop .inv .1 ∙ c .before .before .before .before .before .clear .kept .0
+cast-index : tie.Need-cast-index
+cast-index c = search needs
 
-returns : tie.Need-returns Inv-loop μ-loop
-returns c = search filling-past
+slice-write-index : tie.Need-slice-write-index
+slice-write-index c = search needs
 
-line-end-requires : tie.Need-line-end-requires Inv-loop μ-loop
-line-end-requires c κs = search needs
+add-arrange : tie.Need-add-arrange
+add-arrange c = search needs
 
-add-n : tie.Need-add-n Inv-loop μ-loop
-add-n c = search needs
+sub-arrange : tie.Need-sub-arrange
+sub-arrange c = search needs
 
-sub-put : tie.Need-sub-put Inv-loop μ-loop
-sub-put c = search ahead
+part-arrange-start : tie.Need-part-arrange-start
+part-arrange-start c = search needs
 
-part-put-start : tie.Need-part-put-start Inv-loop μ-loop
-part-put-start c = search ahead
+part-arrange-end : tie.Need-part-arrange-end
+part-arrange-end c = search part-fits
 
-part-put-end : tie.Need-part-put-end Inv-loop μ-loop
-part-put-end c = search line-within
+arrange-requires : tie.Need-arrange-requires
+arrange-requires c κs = search needs
 
-put-requires : tie.Need-put-requires Inv-loop μ-loop
-put-requires c κs = search needs
+same-length : tie.Need-same-length
+same-length c = search run-length
 
-add-i : tie.Need-add-i Inv-loop μ-loop
-add-i c = search line-fits
-
-loop-less : tie.Need-loop-less Inv-loop μ-loop
-loop-less c = search needs
-
-loop-again : tie.Need-loop-again Inv-loop μ-loop
-loop-again c = (search (filling-next, row-low), c .before .before .put .kept .1 .1 .1 .1 .1 .1 .0 ∙ c .before .before .before .before .before .before .before .before .loop .inv .1)
-
-same-length-2 : tie.Need-same-length-2 Inv-loop μ-loop
-same-length-2 c = c .before .loop .inv .1 ∙ c .before .before .before .before .clear .kept .0
-
-returns-2 : tie.Need-returns-2 Inv-loop μ-loop
-returns-2 c = search filling-over
+returns : tie.Need-returns
+returns c = search filled
 
 pub fill-spec : {M : Type 1} → statement M
 fill-spec =
     tie.close
     (tie.spec
-    Inv-loop
-    μ-loop
-    clear-requires
-    loop-holds
+    sub-collect
+    part-collect-start
+    part-collect-end
+    collect-requires
+    cast-index
+    slice-write-index
+    add-arrange
+    sub-arrange
+    part-arrange-start
+    part-arrange-end
+    arrange-requires
     same-length
-    returns
-    line-end-requires
-    add-n
-    sub-put
-    part-put-start
-    part-put-end
-    put-requires
-    add-i
-    loop-less
-    loop-again
-    same-length-2
-    returns-2)
+    returns)

@@ -2,7 +2,7 @@
 -- Assumes nothing.
 use Rattle.index.specs.Indexed.{keepsRow}
 use Rattle.rows.proofs.Tests.{no-first}
-use Rattle.index.proofs.Hashing.{but}
+use Rattle.index.proofs.Questions.{but}
 use borrow.Author.Needs.{needs}
 use Rattle.index.proofs.is_elsewhere.Statement.{statement}
 use Rattle.index.proofs.is_elsewhere.Tie as tie

@@ -1,6 +1,6 @@
 -- `index::keeps` meets its contract, question by question.
 -- Assumes nothing.
-use Rattle.index.proofs.Hashing.{kept, other-kept}
+use Rattle.index.proofs.Questions.{kept, other-kept}
 use borrow.Author.Needs.{needs}
 use Rattle.index.proofs.keeps.Statement.{statement}
 use Rattle.index.proofs.keeps.Tie as tie

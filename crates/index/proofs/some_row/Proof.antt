@@ -1,6 +1,6 @@
 -- `index::some_row` meets its contract.
 -- Assumes nothing.
-use Rattle.index.proofs.Asking.{served}
+use Rattle.index.proofs.Runs.{served}
 use borrow.Author.Needs.{needs}
 use Rattle.index.proofs.some_row.Statement.{statement}
 use Rattle.index.proofs.some_row.Tie as tie

@@ -1,6 +1,6 @@
 -- `known::is_document` meets its contract.
 -- Assumes nothing.
-use Rattle.elements.proofs.Steps.{name-ahead, name-inside, name-there}
+use Rattle.markup.proofs.Names.{name-ahead, name-inside, name-there}
 use Rattle.known.proofs.Laws.{unnamed, named}
 use borrow.Author.Needs.{needs}
 use Rattle.known.proofs.is_document.Statement.{statement}

@@ -1,6 +1,6 @@
 -- `paths::role_below` meets its contract: the name stands behind the first byte.
 -- Assumes nothing.
-use Rattle.elements.proofs.Steps.{name-ahead, name-inside}
+use Rattle.markup.proofs.Names.{name-ahead, name-inside}
 use Rattle.paths.proofs.Walks.{row-within, name-within, name-below}
 use borrow.Author.Needs.{needs}
 use Rattle.paths.proofs.role_below.Statement.{statement}

@@ -2,7 +2,7 @@
 -- Assumes nothing.
 use Rattle.roles.proofs.Below.{below-late, below-past, below-unknown, below-named}
 use Rattle.paths.proofs.Walks.{role-root}
-use Rattle.elements.proofs.Steps.{name-ahead, name-inside, name-there}
+use Rattle.markup.proofs.Names.{name-ahead, name-inside, name-there}
 use borrow.Author.Needs.{needs}
 use Rattle.roles.proofs.role_in.Statement.{statement}
 use Rattle.roles.proofs.role_in.Tie as tie

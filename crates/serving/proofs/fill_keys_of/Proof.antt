@@ -1,6 +1,6 @@
 -- `serving::fill_keys_of` meets its contract.
 -- Assumes nothing.
-use Rattle.serving.proofs.Laws.{keys-filled}
+use Rattle.serving.proofs.Laws.{keys-filled, asks-key}
 use borrow.Author.Needs.{needs}
 use Rattle.serving.proofs.fill_keys_of.Statement.{statement}
 use Rattle.serving.proofs.fill_keys_of.Tie as tie
@@ -18,7 +18,7 @@ attribute-requires : tie.Need-attribute-requires
 attribute-requires c κs = search needs
 
 fill-requires : tie.Need-fill-requires
-fill-requires c κs = search needs
+fill-requires c κs = search asks-key
 
 same-length : tie.Need-same-length
 same-length c = search needs

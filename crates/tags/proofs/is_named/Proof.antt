@@ -1,6 +1,7 @@
 -- `tags::is_named` meets its contract.
 -- Assumes nothing.
-use Rattle.tags.proofs.Names.{name-ahead, as-long, of-other-length}
+use Rattle.markup.proofs.Names.{name-ahead}
+use Rattle.tags.proofs.Names.{as-long, of-other-length}
 use borrow.Author.Needs.{needs}
 use Rattle.tags.proofs.is_named.Statement.{statement}
 use Rattle.tags.proofs.is_named.Tie as tie

@@ -1,6 +1,6 @@
 -- `tags::named_again` meets its contract.
 -- Assumes nothing.
-use Rattle.tags.proofs.Names.{name-ahead}
+use Rattle.markup.proofs.Names.{name-ahead}
 use Rattle.tags.proofs.Some.{again-part, again-past}
 use borrow.Author.Needs.{needs}
 use Rattle.tags.proofs.named_again.Statement.{statement}

@@ -1,0 +1,5 @@
+pub mod Ordering
+pub mod Bytes
+pub mod Parts
+pub mod Skipping
+pub mod Comparing

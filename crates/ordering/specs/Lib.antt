@@ -1,0 +1,5 @@
+pub mod Order
+pub mod Fields
+pub mod Keys
+pub mod Examples
+pub mod Unique

@@ -1,0 +1,4 @@
+pub mod Copying
+pub mod Counting
+pub mod Merging
+pub mod Sorting
