@@ -158,14 +158,17 @@ fn worst_order(bench: &mut Bench) {
     let some = |number: usize, end: &str| format!("{}{end}", few(number, &"n".repeat(if number % 500 == 250 { 4_000 } else { 0 })));
     type Name<'a> = &'a dyn Fn(usize, &str) -> String;
     // What the rows are called, and what the codes.
-    let kinds: [(&str, usize, Name, Name); 3] =
-        [("scattered", 16_000, &few, &few), ("of one long start", 6_000, &alike, &alike), ("some rows long", 16_000, &some, &few)];
+    let kinds: [(&str, usize, Name, Name); 3] = [
+        ("16,000 near codes, full list out of order", 16_000, &few, &few),
+        ("6,000 near codes, full list, all of a long start", 6_000, &alike, &alike),
+        ("16,000 near codes, full list, some rows long", 16_000, &some, &few),
+    ];
     for (kind, count, row, sought) in kinds {
         let (mut root, facts) = registration_draft(1);
         let codes = (0..count).map(|number| code(["a", "s", &sought(number, "!")])).collect();
         establishment_entity(&mut root).children().push(performance(codes));
         let rows = filled(&known_rows(&facts), 0, |number| vec!["a".to_string(), "s".to_string(), row(number, "?")]);
-        bench.worst(&format!("{count} near codes, full list {kind}"), &clean::render_plainly(&root), &rows);
+        bench.worst(kind, &clean::render_plainly(&root), &rows);
     }
 }
 

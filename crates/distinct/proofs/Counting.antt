@@ -1,12 +1,14 @@
 -- Two of the same name, by how many positions have a name: that does not depend on their order.
 -- Assumes nothing.
-use mathlib.Core.Path.{_≡_, refl, sym, _∙_}
+use mathlib.Core.Path.{_≡_, refl, sym, _∙_, ap}
 use mathlib.Core.Bool.{Bool, true, false}
-use mathlib.Core.List.{List, [], _∷_}
-use Prim.Native.Nat.{ℕ, _+_, _≤_}
+use mathlib.Core.List.{List, [], _∷_, _++_}
+use Prim.Native.Nat.{ℕ, _+_, _*_, _<_, _≤_}
 use native.Mathlib.Omega.{arith}
 use borrow.Author.Tests.{lt-ltb, ltb-true}
 use lib.Dec.{eqb}
+use lib.ListN.{length, take, drop, take-append-drop}
+use lib.Seq.{length-take-le}
 use Rattle.scan.specs.Choice.{pick, _or_}
 use Rattle.scan.specs.Lists.{some, pairs}
 use Rattle.scan.proofs.Tests.{never, or-true}
@@ -14,7 +16,7 @@ use Rattle.facts.specs.Strings.{equal}
 use Rattle.facts.proofs.StringLaws.{equal-same, equal-is}
 use Rattle.ordering.specs.Keys.{nameOf}
 use Rattle.sorting.specs.Sorting.{count, Rearranged}
-use Rattle.sorting.proofs.Counting.{some-count}
+use Rattle.sorting.proofs.Counting.{count-append, some-count}
 use Rattle.distinct.specs.Repeats.{isCalled, twice}
 
 -- ---- equal lists, element by element
@@ -46,7 +48,8 @@ module _ (s : List ℕ) where
       go true e g k = rw (← pairs-same t (nameOf s b) e, some-count (isCalled s t) bs, lt-ltb 0 (count (isCalled s t) bs) (omega arith))
       go false e g k = rw (k (omega arith)) (or-true (some (isCalled s (nameOf s b)) bs))
 
-  twice-kept : (bs cs : List ℕ) → Rearranged bs cs → twice s bs ≡ true → twice s cs ≡ true
+  -- where each property is had by as many or more
+  twice-kept : (bs cs : List ℕ) → ((p : ℕ → Bool) → count p bs ≤ count p cs) → twice s bs ≡ true → twice s cs ≡ true
   twice-kept bs cs h e = twice-count bs e (λ t k. count-twice t cs (omega (arith, h (isCalled s t))))
 
   -- the same positions in another order
@@ -54,6 +57,20 @@ module _ (s : List ℕ) where
   same-twice bs cs h = go (twice s bs) (twice s cs) refl refl
     where
       go : (t u : Bool) → twice s bs ≡ t → twice s cs ≡ u → t ≡ u
-      go true u e f = sym (twice-kept bs cs h e) ∙ f
-      go false true e f = sym e ∙ twice-kept cs bs (λ p. sym (h p)) f
+      go true u e f = sym (twice-kept bs cs (λ p. omega (arith, h p)) e) ∙ f
+      go false true e f = sym e ∙ twice-kept cs bs (λ p. omega (arith, h p)) f
       go false false e f = refl
+
+  -- ---- a part in front is sorted first
+  module _ (bs : List ℕ) (k : ℕ) where
+    parted : (p : ℕ → Bool) → count p bs ≡ count p (take k bs) + count p (drop k bs)
+    parted p = ap (count p) (sym (take-append-drop k bs)) ∙ count-append p (take k bs) (drop k bs)
+
+    pub front-twice : (t : Bool) → t ≡ twice s (take k bs) → t ≡ true → true ≡ twice s bs
+    front-twice t e f = sym (twice-kept (take k bs) bs (λ p. omega (arith, parted p)) (sym e ∙ f))
+
+    pub rest-twice : (cs : List ℕ) → Rearranged (take k bs) cs → (r : Bool) → r ≡ twice s (cs ++ drop k bs) → r ≡ twice s bs
+    rest-twice cs h r e = e ∙ sym (same-twice bs (cs ++ drop k bs) (λ p. omega (arith, parted p, h p, count-append p cs (drop k bs))))
+
+pub front-room : (bs room : List ℕ) (k : ℕ) → k < length bs → length bs ≤ 2 * length room → length (take k bs) ≤ 2 * length room
+front-room bs room k h g = omega (arith, length-take-le k bs (omega arith))

@@ -2,6 +2,7 @@
 ghost use mathlib.Core.Path.{_≡_};
 ghost use Prim.Native.Nat.{_*_, _≤_};
 ghost use lib.ListN.{length};
+ghost use Rattle.sorting.specs.Sorting.{Rearranged};
 ghost use Rattle.distinct.specs.Repeats.{twice, neighbours};
 use ordering::By;
 use ordering::Order;
@@ -27,11 +28,26 @@ fn has_same_neighbours(s: &[u8], a: &[u32]) -> bool
     false
 }
 
-// Whether two of the positions have the same name. The positions end in no particular order, and so does the room.
+// Whether two of the positions have the same name; the positions are sorted.
+fn repeats_sorted(s: &[u8], starts: &mut [u32], room: &mut [u32]) -> bool
+    requires { ⌜ length (now starts) ≤ 2 * length (now room) ⌝ }
+    ensures { λ r. ⌜ (r ≡ twice (now (s .entry)) (now (starts .entry))) × Rearranged (now (starts .entry)) (now (starts .exit)) ⌝ }
+{
+    sorting::sort(By::Name, s, starts, room);
+    has_same_neighbours(s, starts)
+}
+
+// Whether two of the positions have the same name. The positions end in no particular order, and so does the room. The first 256 are asked first: where
+// names are few, two of these are the same.
 pub fn repeats(s: &[u8], starts: &mut [u32], room: &mut [u32]) -> bool
     requires { ⌜ length (now starts) ≤ 2 * length (now room) ⌝ }
     ensures { λ r. ⌜ r ≡ twice (now (s .entry)) (now (starts .entry)) ⌝ }
 {
-    sorting::sort(By::Name, s, starts, room);
-    has_same_neighbours(s, starts)
+    if starts.len() <= 256 {
+        return repeats_sorted(s, starts, room);
+    }
+    if repeats_sorted(s, &mut starts[..256], room) {
+        return true;
+    }
+    repeats_sorted(s, starts, room)
 }
