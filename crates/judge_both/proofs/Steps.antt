@@ -1,0 +1,106 @@
+-- The two checks and the merge, one law for each way out; and demand 3 as a law of what they answer.
+-- Assumes nothing.
+use mathlib.Core.Path.{_≡_, refl, sym, _∙_, ap}
+use mathlib.Core.Bool.{Bool, true, false}
+use mathlib.Core.List.{List, _++_}
+use Prim.Native.Nat.{ℕ, _+_, _-_, _*_, _/_, _<_, _≤_, _^_}
+use native.Mathlib.Omega.{arith}
+use lib.ListN.{length, take, drop, length-append}
+use mir.Val.{Fits}
+use mir.Syntax.{w64}
+use Rattle.list_findings.specs.declared.Merged.{Merged}
+use Rattle.list_findings.specs.declared.Merged.the-variants.{Findings as Kept, Refused as NotMerged}
+use Rattle.list_findings.specs.Findings.{width, flat}
+use Rattle.list_findings.specs.Merge.{IsMerged, mergeOf}
+use Rattle.list_findings.proofs.Records.{length-flat}
+use Rattle.table_join.specs.Joins.{Joins}
+use Rattle.judge_check.specs.declared.Answer.{Answer}
+use Rattle.judge_check.specs.declared.Answer.the-variants.{Findings, Refused}
+use Rattle.judge_check.specs.Check.{Outcome, checkOf}
+use Rattle.judge_check.specs.Check.{Leaves as Checks}
+use Rattle.judge_check.specs.Accepted.{foundIn, Accepted}
+use Rattle.judge_check.proofs.Demand2.{accepted-check}
+use Rattle.judge_check.proofs.Demand3.{demand-3}
+use Rattle.judge_both.specs.Both.{Both, asAnswer, merging, afterFirst, afterSecond, bothOf, Leaves}
+
+module _ (m : Merged) where
+  pub kept-as : (n : ℕ) → m ≡ Kept n → Findings n ≡ asAnswer m
+  kept-as n e = rw e
+
+  pub refused-as : (number value : ℕ) → m ≡ NotMerged number value → Refused number value ≡ asAnswer m
+  refused-as number value e = rw e
+
+-- the records of an accepted check stand in its list
+front-there : (s file scratch table list : List ℕ) (n : ℕ) → checkOf s file scratch table list .answer ≡ Findings n → n * width ≤ length (checkOf s file scratch table list .list)
+front-there s file scratch table list n e =
+    let x = accepted-check s file scratch table list n e in
+    let f = foundIn s (x .rows) file in
+    omega (arith, x .many, length-flat f, ap length (x .holds) ∙ length-append (flat f) (drop (length (flat f)) list))
+
+-- ---- the merge of two fronts
+module _ (first second out : List ℕ) (n m : ℕ) (x : Merged) (out′ : List ℕ) (w : IsMerged (take (n * width - 0) first) (take (m * width - 0) second) out x out′) where
+  both-whole : (IsMerged (take (n * width) first) (take (m * width) second) out x out′)
+  both-whole =
+      let z : n * width - 0 ≡ n * width = omega arith in
+      let y : m * width - 0 ≡ m * width = omega arith in
+      rw (z, y) at w
+
+  pub fronts-answer : (q : Answer) → q ≡ asAnswer x → q ≡ asAnswer (merging first n second m out .answer)
+  unfolding merging
+  fronts-answer q i = i ∙ ap asAnswer (both-whole .answers)
+
+  pub fronts-list : out′ ≡ merging first n second m out .list
+  unfolding merging
+  fronts-list = both-whole .leaves
+
+-- ---- the second check
+module _ (s b first : List ℕ) (n : ℕ) (scratch table second out : List ℕ) (t : Answer) (scratch′ table′ second′ : List ℕ) (k : Checks (checkOf s b scratch table second) t scratch′ table′ second′) where
+  pub second-refused : (number value : ℕ) → t ≡ Refused number value → Leaves (afterSecond first n (checkOf s b scratch table second) out (checkOf s b scratch table second .answer)) (Refused number value) scratch′ table′ first second′ out
+  second-refused number value f =
+      let g : checkOf s b scratch table second .answer ≡ Refused number value = sym (k .answers) ∙ f in
+      rw g record { answers = refl; scratches = k .scratches; tables = k .tables; firsts = refl; seconds = k .lists; outs = refl }
+
+  module _ (m : ℕ) (f : t ≡ Findings m) where
+    answered : checkOf s b scratch table second .answer ≡ Findings m
+    answered = sym (k .answers) ∙ f
+
+    pub second-there : m * width ≤ length second′
+    second-there = rw (k .lists) (front-there s b scratch table second m answered)
+
+    pub second-merged : (q : Answer) (out′ : List ℕ) → q ≡ asAnswer (merging first n second′ m out .answer) → out′ ≡ merging first n second′ m out .list → Leaves (afterSecond first n (checkOf s b scratch table second) out (checkOf s b scratch table second .answer)) q scratch′ table′ first second′ out′
+    second-merged q out′ g h =
+        rw answered record {
+          answers = g ∙ ap (λ l. asAnswer (merging first n l m out .answer)) (k .lists);
+          scratches = k .scratches;
+          tables = k .tables;
+          firsts = refl;
+          seconds = k .lists;
+          outs = h ∙ ap (λ l. merging first n l m out .list) (k .lists);
+        }
+
+-- ---- the first check
+module _ (s a b scratch table first second out : List ℕ) (r : Answer) (scratch′ table′ first′ : List ℕ) (l : Checks (checkOf s a scratch table first) r scratch′ table′ first′) where
+  pub first-refused : (number value : ℕ) → r ≡ Refused number value → Leaves (bothOf s a b scratch table first second out) (Refused number value) scratch′ table′ first′ second out
+  unfolding bothOf
+  first-refused number value e =
+      let f : checkOf s a scratch table first .answer ≡ Refused number value = sym (l .answers) ∙ e in
+      rw f record { answers = refl; scratches = l .scratches; tables = l .tables; firsts = l .lists; seconds = refl; outs = refl }
+
+  module _ (n : ℕ) (e : r ≡ Findings n) where
+    its-first : checkOf s a scratch table first .answer ≡ Findings n
+    its-first = sym (l .answers) ∙ e
+
+    pub first-there : n * width ≤ length first′
+    first-there = rw (l .lists) (front-there s a scratch table first n its-first)
+
+    pub both-checked : (q : Answer) (scratch″ table″ second′ out′ : List ℕ) → Leaves (afterSecond first′ n (checkOf s b scratch′ table′ second) out (checkOf s b scratch′ table′ second .answer)) q scratch″ table″ first′ second′ out′ → Leaves (bothOf s a b scratch table first second out) q scratch″ table″ first′ second′ out′
+    unfolding bothOf
+    both-checked q scratch″ table″ second′ out′ k = rw (its-first, ← l .lists, ← l .scratches, ← l .tables) k
+
+-- ---- demand 3: what is answered and written is what the check under the joined file answers and writes
+pub demand-3-met : (s c a b : List ℕ) → Joins c a b → (scratch table first second out scratch′ table′ : List ℕ) (n m k : ℕ) → checkOf s a scratch table first .answer ≡ Findings n → checkOf s b (checkOf s a scratch table first .scratch) (checkOf s a scratch table first .table) second .answer ≡ Findings m → checkOf s c scratch′ table′ out .answer ≡ Findings k → (bothOf s a b scratch table first second out .answer ≡ checkOf s c scratch′ table′ out .answer) × (bothOf s a b scratch table first second out .out ≡ checkOf s c scratch′ table′ out .list)
+unfolding bothOf merging
+demand-3-met s c a b j scratch table first second out scratch′ table′ n m k e f g =
+    let x = checkOf s a scratch table first in
+    let d = demand-3 s c a b j scratch table first (x .scratch) (x .table) second scratch′ table′ out n m k e f g in
+    rw (e, f) (ap (λ o. asAnswer (o .answer)) d ∙ sym g, ap (λ o. o .list) d)

@@ -1,0 +1,152 @@
+-- The chain of refusals, one law for each: what each answers and leaves is the outcome that the definition gives.
+-- Assumes nothing.
+use mathlib.Core.Path.{_≡_, refl, sym, _∙_, ap, subst}
+use mathlib.Core.Bool.{Bool, true, false}
+use mathlib.Core.List.{List, [], _∷_, _++_}
+use Prim.Native.Nat.{ℕ, _+_, _-_, _*_, _/_, _<_, _≤_}
+use native.Mathlib.Omega.{arith}
+use borrow.Author.Tests.{le-leb, lt-leb, leb-true, lt-ltb, le-ltb}
+use lib.Dec.{leb, ltb}
+use lib.ListN.{length, take, drop, length-append}
+use lib.Seq.{take-append-seam}
+use mir.Val.{Fits}
+use mir.Syntax.{w64}
+use Rattle.text_scan.specs.Choice.{pick}
+use Rattle.table_file.specs.Accepted.{Tables, accepted, tablesOf}
+use Rattle.table_file.specs.declared.Accepted.{Accepted}
+use Rattle.xml_elements.specs.declared.Answer.{Answer as Reading}
+use Rattle.xml_elements.specs.declared.Answer.the-variants.{Elements, Refused as NotRead}
+use Rattle.xml_elements.specs.Elements.{Read, refused, elements, elementsOf, answerOf, tableAfter}
+use Rattle.xml_elements.specs.Elements.{Leaves as Reads}
+use Rattle.xml_nesting.proofs.Read.{Rows, rows-read}
+use Rattle.judge_answers.specs.declared.Places.{Places}
+use Rattle.judge_answers.specs.Answers.{tablesAt}
+use Rattle.judge_marks.specs.Listed.{findingsOf}
+use Rattle.judge_check.specs.declared.Answer.{Answer}
+use Rattle.judge_check.specs.declared.Answer.the-variants.{Findings, Refused}
+use Rattle.judge_check.specs.Drafted.{draftOf}
+use Rattle.judge_check.specs.Long.{longValue}
+use Rattle.judge_check.specs.Check.{Outcome, cleared, answerIn, listIn, judged, underFile, checkOf, Leaves}
+use Rattle.judge_check.proofs.Values.{none-long}
+
+-- ---- what a reading answered
+elements-not-refused : {A : Type 0} (n number place : ℕ) → Elements n ≡ NotRead number place → A
+elements-not-refused n number place e = absurd (let z : _≡_ {A = ℕ} 0 1 = cc in omega arith)
+
+refused-not-elements : {A : Type 0} (n number place : ℕ) → NotRead number place ≡ Elements n → A
+refused-not-elements n number place e = absurd (let z : _≡_ {A = ℕ} 0 1 = cc in omega arith)
+
+-- the document was read, with so many elements
+pub record ReadAs (s table : List ℕ) (count : ℕ) (after : List ℕ) : Type 0 where
+  pub rows : List ℕ
+  pub is : elementsOf s ≡ elements count rows
+  pub room : 4 * count ≤ length table
+  pub now-is : after ≡ rows ++ drop (4 * count) table
+
+read-as : (s table : List ℕ) (x : Read) → elementsOf s ≡ x → (a : Reading) (after : List ℕ) → Reads x table a after → (count : ℕ) → a ≡ Elements count → ReadAs s table count after
+read-as s table (refused number place) e a after l count f = refused-not-elements count number place (sym (l .answers) ∙ f)
+read-as s table (elements n rows) e a after l count f = go (leb (4 * n) (length table)) refl (l .answers) (l .leaves)
+  where
+    go : (t : Bool) → leb (4 * n) (length table) ≡ t → a ≡ pick t (Elements n) (NotRead 9 n) → after ≡ pick t (rows ++ drop (4 * n) table) table → ReadAs s table count after
+    go true q g h =
+        let i : n ≡ count = same n count (sym g ∙ f) in
+        rw (← i) record { rows = rows; is = e; room = leb-true (4 * n) (length table) q; now-is = h }
+      where
+        same : (n m : ℕ) → Elements n ≡ Elements m → n ≡ m
+        same n m e = cc
+    go false q g h = refused-not-elements count 9 n (sym g ∙ f)
+
+-- ---- a document that is not read
+not-read : (s : List ℕ) (t : Tables) (scratch table list : List ℕ) (x : Read) (a : Reading) (after : List ℕ) → Reads x table a after → (number place : ℕ) → a ≡ NotRead number place → Leaves (judged s t scratch table list x) (Refused number place) scratch after list
+not-read s t scratch table list (refused n p) a after l number place f =
+    let i : n ≡ number = first n p number place (sym (l .answers) ∙ f) in
+    let j : p ≡ place = second n p number place (sym (l .answers) ∙ f) in
+    record { answers = rw (i, j); scratches = refl; tables = l .leaves; lists = refl }
+  where
+    first : (n p m q : ℕ) → NotRead n p ≡ NotRead m q → n ≡ m
+    first n p m q e = cc
+
+    second : (n p m q : ℕ) → NotRead n p ≡ NotRead m q → p ≡ q
+    second n p m q e = cc
+not-read s t scratch table list (elements n rows) a after l number place f = go (leb (4 * n) (length table)) refl (l .answers) (l .leaves)
+  where
+    go : (b : Bool) → leb (4 * n) (length table) ≡ b → a ≡ pick b (Elements n) (NotRead 9 n) → after ≡ pick b (rows ++ drop (4 * n) table) table → Leaves (judged s t scratch table list (elements n rows)) (Refused number place) scratch after list
+    go true q g h = elements-not-refused n number place (sym g ∙ f)
+    go false q g h =
+        let i : 9 ≡ number = first 9 n number place (sym g ∙ f) in
+        let j : n ≡ place = second 9 n number place (sym g ∙ f) in
+        rw q record { answers = rw (i, j); scratches = refl; tables = h; lists = refl }
+      where
+        first : (n p m q : ℕ) → NotRead n p ≡ NotRead m q → n ≡ m
+        first n p m q e = cc
+
+        second : (n p m q : ℕ) → NotRead n p ≡ NotRead m q → p ≡ q
+        second n p m q e = cc
+
+module _ (s table : List ℕ) (a : Reading) (after : List ℕ) (l : Reads (elementsOf s) table a after) where
+  pub under-refused : (number place : ℕ) → a ≡ NotRead number place → (t : Tables) (scratch list : List ℕ) → Leaves (judged s t scratch table list (elementsOf s)) (Refused number place) scratch after list
+  under-refused number place f t scratch list = not-read s t scratch table list (elementsOf s) a after l number place f
+
+  -- ---- a document that is read
+  module _ (count : ℕ) (f : a ≡ Elements count) where
+    its : ReadAs s table count after
+    its = read-as s table (elementsOf s) refl a after l count f
+
+    its-rows : Rows s count (its .rows)
+    its-rows = rows-read s count (its .rows) (its .is)
+
+    pub under-fits : Fits w64 (4 * count)
+    under-fits = omega (arith, its-rows .few)
+
+    long : length after ≡ length (its .rows) + length (drop (4 * count) table)
+    long = ap length (its .now-is) ∙ length-append (its .rows) (drop (4 * count) table)
+
+    pub under-room : 4 * count ≤ length after
+    under-room = omega (arith, long, its-rows .wide)
+
+    front : take (4 * count - 0) after ≡ its .rows
+    front =
+        let e : 4 * count - 0 ≡ length (its .rows) = omega (arith, its-rows .wide) in
+        rw e (ap (take (length (its .rows))) (its .now-is) ∙ take-append-seam (its .rows) (drop (4 * count) table))
+
+    pub under-few : length (take (4 * count - 0) after) / 4 ≤ 16384
+    under-few = omega (arith, ap length front, its-rows .wide, its-rows .few)
+
+    pub under-judged : (t : Tables) (scratch scratch′ list list′ : List ℕ) (r : Answer) → scratch′ ≡ cleared scratch → r ≡ answerIn (findingsOf (draftOf s (take (4 * count - 0) after)) t) list → list′ ≡ listIn (findingsOf (draftOf s (take (4 * count - 0) after)) t) list → Leaves (judged s t scratch table list (elementsOf s)) r scratch′ after list′
+    under-judged t scratch scratch′ list list′ r g h i =
+        rw (its .is, le-leb (4 * count) (length table) (its .room), none-long s (its .rows)) record {
+          answers = h ∙ ap (λ x. answerIn (findingsOf (draftOf s x) t) list) front;
+          scratches = g;
+          tables = its .now-is;
+          lists = i ∙ ap (λ x. listIn (findingsOf (draftOf s x) t) list) front;
+        }
+
+-- ---- the chain
+module _ (s file scratch table list : List ℕ) where
+  pub refused-1 : 1048576 < length s → Leaves (checkOf s file scratch table list) (Refused 1 (length s)) scratch table list
+  unfolding checkOf
+  refused-1 h = rw (lt-ltb 1048576 (length s) h) record { answers = refl; scratches = refl; tables = refl; lists = refl }
+
+  module _ (a : length s ≤ 1048576) where
+    pub refused-2 : 1048576 < length file → Leaves (checkOf s file scratch table list) (Refused 2 (length file)) scratch table list
+    unfolding checkOf
+    refused-2 h = rw (le-ltb 1048576 (length s) a, lt-ltb 1048576 (length file) h) record { answers = refl; scratches = refl; tables = refl; lists = refl }
+
+    module _ (b : length file ≤ 1048576) where
+      pub refused-3 : length scratch < 4096 → Leaves (checkOf s file scratch table list) (Refused 3 4096) scratch table list
+      unfolding checkOf
+      refused-3 h = rw (le-ltb 1048576 (length s) a, le-ltb 1048576 (length file) b, lt-ltb (length scratch) 4096 h) record { answers = refl; scratches = refl; tables = refl; lists = refl }
+
+      module _ (c : 4096 ≤ length scratch) (x : Accepted) (e : x ≡ accepted file) where
+        come : checkOf s file scratch table list ≡ underFile s file scratch table list x
+        unfolding checkOf
+        come = rw (le-ltb 1048576 (length s) a, le-ltb 1048576 (length file) b, le-ltb (length scratch) 4096 c, e)
+
+        pub refused-4 : (place : ℕ) → x ≡ Accepted.Refused place → Leaves (checkOf s file scratch table list) (Refused 4 place) scratch table list
+        refused-4 place f = rw (come, f) record { answers = refl; scratches = refl; tables = refl; lists = refl }
+
+        pub all-accepted : (c cs n ns h hs : ℕ) → x ≡ Accepted.Tables c cs n ns h hs → (r : Answer) (scratch′ table′ list′ : List ℕ) → Leaves (judged s (tablesAt file (record { codes = c; ncodes = cs; names = n; nnames = ns; history = h; nhistory = hs; set = 0; first = 0; several = false })) scratch table list (elementsOf s)) r scratch′ table′ list′ → Leaves (checkOf s file scratch table list) r scratch′ table′ list′
+        unfolding tablesOf
+        all-accepted c cs n ns h hs f r scratch′ table′ list′ l =
+            let g : accepted file ≡ Accepted.Tables c cs n ns h hs = sym e ∙ f in
+            rw (come, f, g) l

@@ -1,0 +1,35 @@
+-- `judge_listed::has_space` meets its contract.
+-- Assumes nothing.
+use Rattle.judge_listed.proofs.Laws.{space-extension, space-code}
+use borrow.Author.Needs.{needs}
+use Rattle.judge_listed.proofs.has_space.Statement.{statement}
+use Rattle.judge_listed.proofs.has_space.Tie as tie
+
+slice-aggregate-attribute-without-space : tie.Need-slice-aggregate-attribute-without-space
+slice-aggregate-attribute-without-space c = search needs
+
+attribute-without-space-requires : tie.Need-attribute-without-space-requires
+attribute-without-space-requires c κs = search needs
+
+slice-aggregate-attribute-without-space-2 : tie.Need-slice-aggregate-attribute-without-space-2
+slice-aggregate-attribute-without-space-2 c = search needs
+
+attribute-without-space-requires-2 : tie.Need-attribute-without-space-requires-2
+attribute-without-space-requires-2 c κs = search needs
+
+returns : tie.Need-returns
+returns c = search space-extension
+
+returns-2 : tie.Need-returns-2
+returns-2 c = search space-code
+
+pub has-space-spec : {M : Type 1} → statement M
+has-space-spec =
+    tie.close
+    (tie.spec
+    slice-aggregate-attribute-without-space
+    attribute-without-space-requires
+    slice-aggregate-attribute-without-space-2
+    attribute-without-space-requires-2
+    returns
+    returns-2)

@@ -1,0 +1,218 @@
+-- The list is filled one record at a time: what is still to be written is told of the digits that are left.
+-- Assumes nothing.
+use mathlib.Core.Path.{_≡_, refl, sym, _∙_, ap}
+use mathlib.Core.Bool.{Bool, true, false}
+use mathlib.Core.List.{List, [], _∷_, _++_}
+use Prim.Native.Nat.{ℕ, zero, suc, _+_, _-_, _*_, _/_, _%_, _<_, _≤_, _^_}
+use native.Mathlib.Omega.{arith}
+use borrow.Author.Tests.{lt-ltb, le-ltb, lt-leb, eq-eqb, ne-eqb}
+use lib.Dec.{ltb, eqb, leb}
+use lib.ListN.{length, drop, getD, set, length-append, drop-of-length-le}
+use lib.Seq.{sets, length-sets}
+use mir.Val.{Fits}
+use mir.Syntax.{w64}
+use Rattle.text_scan.specs.Choice.{pick}
+use Rattle.text_scan.proofs.Within.{drop-here}
+use Rattle.list_findings.specs.declared.Finding.{Finding}
+use Rattle.list_findings.specs.Findings.{lastProcedure, width, flat, filled, stored}
+use Rattle.list_findings.proofs.Filling.{filled-sets, one-stored, length-stored}
+use Rattle.list_findings.proofs.Records.{length-flat}
+use Rattle.list_writer.specs.Listed.{listAfter, countAfter}
+use Rattle.judge_paths.specs.declared.DocumentType.{DocumentType}
+use Rattle.judge_draft.specs.Drafts.{Draft, draft}
+use Rattle.judge_marks.specs.Listed.{finding}
+use Rattle.judge_marks.specs.Marks.{pushed, ones, marked, markedFrom}
+use Rattle.judge_marks.proofs.Digits.{no-ones, none-marked}
+
+-- ---- a digit more
+pub push-one : (m : ℕ) (b : Bool) → m < 4611686018427387904 → b ≡ true → 2 * m + 1 ≡ pushed m b
+unfolding pushed
+push-one m b h e = rw (lt-ltb m 4611686018427387904 h, e)
+
+pub push-zero : (m : ℕ) (b : Bool) → m < 4611686018427387904 → b ≡ false → 2 * m ≡ pushed m b
+unfolding pushed
+push-zero m b h e = rw (lt-ltb m 4611686018427387904 h, e) (omega arith)
+
+pub push-none : (m : ℕ) (b : Bool) → 4611686018427387904 ≤ m → 0 ≡ pushed m b
+unfolding pushed
+push-none m b h = rw (le-ltb m 4611686018427387904 h)
+
+-- ---- counting
+ones-here : (k m : ℕ) → 0 < k → ones k m ≡ m % 2 + ones (k - 1) (m / 2)
+unfolding ones
+ones-here zero m g = absurd (omega arith)
+ones-here (suc k) m g =
+    let e : suc k - 1 ≡ k = omega arith in
+    rw e
+
+ones-over : (k m : ℕ) → k ≤ 0 → ones k m ≡ 0
+unfolding ones
+ones-over zero m g = refl
+ones-over (suc k) m g = absurd (omega arith)
+
+pub record Counted (mark m left found : ℕ) : Type 0 where
+  pub sum : ones lastProcedure mark ≡ found + ones left m
+  pub few : found + left ≤ lastProcedure
+
+pub counted-start : (mark : ℕ) → Counted mark mark 38 0
+counted-start mark = record { sum = omega arith; few = omega arith }
+
+module _ (mark m left found : ℕ) (l : Counted mark m left found) where
+  pub counted-over : left ≤ 0 → found ≡ ones lastProcedure mark
+  counted-over h = omega (arith, l .sum, ones-over left m h)
+
+  module _ (h : 0 < left) where
+    pub counted-none : m ≡ 0 → found ≡ ones lastProcedure mark
+    counted-none e = omega (arith, l .sum, ap (ones left) e, no-ones left)
+
+    pub counted-fits : Fits w64 (found + 1)
+    counted-fits = omega (arith, l .few)
+
+    pub counted-one : m % 2 ≡ 1 → Counted mark (m / 2) (left - 1) (found + 1)
+    counted-one e = record { sum = omega (arith, l .sum, ones-here left m h); few = omega (arith, l .few) }
+
+    pub counted-no : (m % 2 ≡ 1 → ⊥) → Counted mark (m / 2) (left - 1) found
+    counted-no e =
+        let z : m % 2 ≡ 0 = omega arith in
+        record { sum = omega (arith, l .sum, ones-here left m h); few = omega (arith, l .few) }
+
+-- ---- the record
+module _ (s rows roles : List ℕ) (t : DocumentType) (n p f a : ℕ) where
+  pub record-is : f ≡ getD rows (4 * n + 2) 0 → a ≡ getD rows (4 * n + 3) 0 → record { procedure = p; first = f; after = a } ≡ finding (draft s rows roles t) n p
+  unfolding draft
+  record-is e g = rw (e, g)
+
+-- ---- the records of one mark
+module _ (d : Draft) (n : ℕ) where
+  marked-one : (k p m : ℕ) → 0 < k → m % 2 ≡ 1 → marked d n p k m ≡ finding d n p ∷ marked d n (p + 1) (k - 1) (m / 2)
+  unfolding marked
+  marked-one zero p m h e = absurd (omega arith)
+  marked-one (suc k) p m h e =
+      let f : suc k - 1 ≡ k = omega arith in
+      rw (eq-eqb (m % 2) 1 e, f)
+
+  marked-no : (k p m : ℕ) → 0 < k → (m % 2 ≡ 1 → ⊥) → marked d n p k m ≡ marked d n (p + 1) (k - 1) (m / 2)
+  unfolding marked
+  marked-no zero p m h e = absurd (omega arith)
+  marked-no (suc k) p m h e =
+      let f : suc k - 1 ≡ k = omega arith in
+      rw (ne-eqb (m % 2) 1 e, f)
+
+  marked-over : (k p m : ℕ) → k ≤ 0 → marked d n p k m ≡ []
+  unfolding marked
+  marked-over zero p m h = refl
+  marked-over (suc k) p m h = absurd (omega arith)
+
+  -- those from procedure p on are still to be written, behind k records
+  pub record Left (mark : ℕ) (before : List ℕ) (count : ℕ) (list : List ℕ) (m p k : ℕ) : Type 0 where
+    pub rest : sets before (count * width) (flat (marked d n 1 lastProcedure mark)) ≡ sets list (k * width) (flat (marked d n p (39 - p) m))
+    pub many : count + length (marked d n 1 lastProcedure mark) ≡ k + length (marked d n p (39 - p) m)
+    pub room : k + length (marked d n p (39 - p) m) ≤ length list / width
+    pub long : length list ≡ length before
+
+  pub left-start : (mark : ℕ) (list : List ℕ) (count : ℕ) → count + length (marked d n 1 lastProcedure mark) ≤ length list / width → Left mark list count list mark 1 count
+  left-start mark list count h = record { rest = refl; many = refl; room = h; long = refl }
+
+  -- nothing is left to store
+  nothing-left : (list : List ℕ) (k : ℕ) (rs : List Finding) → rs ≡ [] → sets list k (flat rs) ≡ list
+  unfolding flat
+  nothing-left list k rs e = rw e
+
+  module _ (mark : ℕ) (before : List ℕ) (count : ℕ) (list : List ℕ) (m p k : ℕ) (l : Left mark before count list m p k) where
+    pub left-none-count : m ≡ 0 → k ≡ count + length (marked d n 1 lastProcedure mark)
+    left-none-count e = omega (arith, l .many, ap (λ x. length (marked d n p (39 - p) x)) e, ap length (none-marked d n (39 - p) p))
+
+    pub left-none-list : m ≡ 0 → list ≡ sets before (count * width) (flat (marked d n 1 lastProcedure mark))
+    left-none-list e =
+        sym (l .rest ∙ nothing-left list (k * width) (marked d n p (39 - p) m) (ap (marked d n p (39 - p)) e ∙ none-marked d n (39 - p) p))
+
+    pub left-over-count : 39 ≤ p → k ≡ count + length (marked d n 1 lastProcedure mark)
+    left-over-count h = omega (arith, l .many, ap length (marked-over (39 - p) p m (omega arith)))
+
+    pub left-over-list : 39 ≤ p → list ≡ sets before (count * width) (flat (marked d n 1 lastProcedure mark))
+    left-over-list h = sym (l .rest ∙ nothing-left list (k * width) (marked d n p (39 - p) m) (marked-over (39 - p) p m (omega arith)))
+
+    module _ (h : p < 39) where
+      fewer : 39 - p - 1 ≡ 39 - (p + 1)
+      fewer = omega arith
+
+      pub left-no : (m % 2 ≡ 1 → ⊥) → Left mark before count list (m / 2) (p + 1) k
+      left-no e =
+          let no : marked d n p (39 - p) m ≡ marked d n (p + 1) (39 - (p + 1)) (m / 2) = rw fewer at (marked-no (39 - p) p m (omega arith) e) in
+          record {
+            rest = l .rest ∙ ap (λ rs. sets list (k * width) (flat rs)) no;
+            many = omega (arith, l .many, ap length no);
+            room = omega (arith, l .room, ap length no);
+            long = l .long;
+          }
+
+      module _ (e : m % 2 ≡ 1) where
+        one : marked d n p (39 - p) m ≡ finding d n p ∷ marked d n (p + 1) (39 - (p + 1)) (m / 2)
+        one = rw fewer at (marked-one (39 - p) p m (omega arith) e)
+
+        fits : k < length list / width
+        fits = omega (arith, l .room, ap length one)
+
+        pub left-one : (after : List ℕ) (next : ℕ) (r : Finding) → r ≡ finding d n p → next ≡ countAfter list k → after ≡ listAfter list k r → Left mark before count after (m / 2) (p + 1) next
+        unfolding countAfter listAfter
+        left-one after next r f g i =
+            let full = lt-leb (length list / width) k fits in
+            let c : next ≡ k + 1 = g ∙ rw full in
+            let s : after ≡ stored list (k * width) (finding d n p) = i ∙ rw (full, f) in
+            let w : k * width + width ≡ (k + 1) * width = omega arith in
+            rw (c, s) record {
+              rest = l .rest ∙ (ap (λ rs. sets list (k * width) (flat rs)) one ∙ (one-stored list (k * width) (finding d n p) (marked d n (p + 1) (39 - (p + 1)) (m / 2)) ∙ rw w));
+              many = omega (arith, l .many, ap length one);
+              room = omega (arith, l .room, ap length one, length-stored list (k * width) (finding d n p));
+              long = length-stored list (k * width) (finding d n p) ∙ l .long;
+            }
+
+-- ---- the records of all marks
+flat-joined : (xs ys : List Finding) → flat (xs ++ ys) ≡ flat xs ++ flat ys
+unfolding flat
+flat-joined [] ys = refl
+flat-joined (x ∷ xs) ys = rw (flat-joined xs ys)
+
+sets-joined : (xs ys list : List ℕ) (k : ℕ) → sets list k (xs ++ ys) ≡ sets (sets list k xs) (k + length xs) ys
+sets-joined [] ys list k =
+    let e : k + 0 ≡ k = omega arith in
+    rw e
+sets-joined (x ∷ xs) ys list k =
+    let e : k + suc (length xs) ≡ suc k + length xs = omega arith in
+    rw e (sets-joined xs ys (set list k x) (suc k))
+
+module _ (d : Draft) (marks before : List ℕ) where
+  -- those of the marks from number n on are still to be written, behind `count` records
+  pub record ToWrite (list : List ℕ) (n count : ℕ) : Type 0 where
+    pub rest : sets before 0 (flat (markedFrom d 0 marks)) ≡ sets list (count * width) (flat (markedFrom d n (drop n marks)))
+    pub room : count + length (markedFrom d n (drop n marks)) ≤ length list / width
+    pub long : length list ≡ length before
+
+  pub towrite-start : length (markedFrom d 0 marks) ≤ length before / width → ToWrite before 0 0
+  towrite-start h = record { rest = refl; room = omega arith; long = refl }
+
+  module _ (list : List ℕ) (n count : ℕ) (l : ToWrite list n count) where
+    pub towrite-over : length marks ≤ n → length (markedFrom d 0 marks) ≤ length before / width → list ≡ filled (markedFrom d 0 marks) before
+    unfolding markedFrom flat
+    towrite-over h g = sym (sym (filled-sets (markedFrom d 0 marks) before g) ∙ (l .rest ∙ rw (drop-of-length-le marks h)))
+
+    module _ (h : n < length marks) where
+      next : markedFrom d n (drop n marks) ≡ marked d n 1 lastProcedure (getD marks n 0) ++ markedFrom d (n + 1) (drop (n + 1) marks)
+      unfolding markedFrom
+      next = rw (drop-here marks n h)
+
+      many : length (markedFrom d n (drop n marks)) ≡ length (marked d n 1 lastProcedure (getD marks n 0)) + length (markedFrom d (n + 1) (drop (n + 1) marks))
+      many = ap length next ∙ length-append (marked d n 1 lastProcedure (getD marks n 0)) (markedFrom d (n + 1) (drop (n + 1) marks))
+
+      pub towrite-room : count + length (marked d n 1 lastProcedure (getD marks n 0)) ≤ length list / width
+      towrite-room = omega (arith, l .room, many)
+
+      pub towrite-next : (after : List ℕ) (c : ℕ) → c ≡ count + length (marked d n 1 lastProcedure (getD marks n 0)) → after ≡ sets list (count * width) (flat (marked d n 1 lastProcedure (getD marks n 0))) → ToWrite after (n + 1) c
+      towrite-next after c e f =
+          let rs = marked d n 1 lastProcedure (getD marks n 0) in
+          let w : c * width ≡ count * width + length (flat rs) = omega (arith, e, length-flat rs) in
+          record {
+            rest = l .rest ∙ (ap (λ x. sets list (count * width) (flat x)) next ∙ (ap (sets list (count * width)) (flat-joined rs (markedFrom d (n + 1) (drop (n + 1) marks))) ∙ (sets-joined (flat rs) (flat (markedFrom d (n + 1) (drop (n + 1) marks))) list (count * width) ∙ rw (← f, ← w))));
+            room = omega (arith, l .room, many, e, ap length f, length-sets list (count * width) (flat rs));
+            long = ap length f ∙ (length-sets list (count * width) (flat rs) ∙ l .long);
+          }

@@ -1,0 +1,103 @@
+-- From an element to its parent: the role of an element is told by its parent's role, however many elements stand above.
+-- Assumes nothing.
+use mathlib.Core.Path.{_≡_, refl, sym, _∙_, ap}
+use mathlib.Core.Bool.{Bool, true, false}
+use mathlib.Core.List.{List}
+use Prim.Native.Nat.{ℕ, zero, suc, _+_, _-_, _*_, _/_, _<_, _≤_}
+use native.Mathlib.Omega.{arith}
+use borrow.Author.Tests.{lt-ltb, le-ltb, ltb-true, eq-eqb, ne-eqb}
+use lib.Dec.{eqb, ltb}
+use lib.ListN.{length, take, drop, getD}
+use Rattle.text_scan.specs.Choice.{pick, _and_}
+use Rattle.text_scan.proofs.Tests.{and-left, and-right}
+use Rattle.xml_markup.specs.Names.{nameEnd}
+use Rattle.xml_elements.specs.Elements.{parentOf, firstOf}
+use Rattle.judge_paths.specs.declared.DocumentType.{DocumentType}
+use Rattle.judge_paths.specs.declared.Role.{Role}
+use Rattle.judge_paths.specs.declared.Role.the-variants.{Unknown, Root}
+use Rattle.judge_paths.specs.Paths.{childRole, hasRow, nameOf, roleWithin, roleOf}
+
+-- ---- the row of an element
+module _ (s rows : List ℕ) (n : ℕ) where
+  pub row-past : length rows / 4 ≤ n → false ≡ hasRow s rows n
+  row-past h = rw (le-ltb n (length rows / 4) h)
+
+  module _ (h : n < length rows / 4) (p : ℕ) (e : p ≡ getD rows (4 * n + 1) 0) where
+    pub row-late : n ≤ p → false ≡ hasRow s rows n
+    row-late g = rw (lt-ltb n (length rows / 4) h, ← e, le-ltb p n g)
+
+    pub row-there : p < n → (f : ℕ) → f ≡ getD rows (4 * n + 2) 0 → ltb f (length s) ≡ hasRow s rows n
+    row-there g f q = rw (lt-ltb n (length rows / 4) h, ← e, lt-ltb p n g, ← q)
+
+  module _ (e : hasRow s rows n ≡ true) where
+    pub row-within : n < length rows / 4
+    row-within = ltb-true n (length rows / 4) (and-left (ltb n (length rows / 4)) (ltb (parentOf rows n) n and ltb (firstOf rows n) (length s)) e)
+
+    rest : ltb (parentOf rows n) n and ltb (firstOf rows n) (length s) ≡ true
+    rest = and-right (ltb n (length rows / 4)) (ltb (parentOf rows n) n and ltb (firstOf rows n) (length s)) e
+
+    pub parent-earlier : parentOf rows n < n
+    parent-earlier = ltb-true (parentOf rows n) n (and-left (ltb (parentOf rows n) n) (ltb (firstOf rows n) (length s)) rest)
+
+    pub first-within : firstOf rows n < length s
+    first-within = ltb-true (firstOf rows n) (length s) (and-right (ltb (parentOf rows n) n) (ltb (firstOf rows n) (length s)) rest)
+
+    -- the same of numbers that were read
+    pub name-within : (f : ℕ) → f ≡ getD rows (4 * n + 2) 0 → f + 1 ≤ length s
+    name-within f q = omega (arith, first-within)
+
+-- the same of a test that was made
+module _ (s rows : List ℕ) (n : ℕ) (b : Bool) (e : b ≡ hasRow s rows n) (f : b ≡ true) where
+  pub has-row : hasRow s rows n ≡ true
+  has-row = sym e ∙ f
+
+  pub has-row-within : n < length rows / 4
+  has-row-within = row-within s rows n has-row
+
+  pub parent-falls : (p m : ℕ) → n ≡ m → p ≡ getD rows (4 * n + 1) 0 → p < m
+  parent-falls p m q g = omega (arith, parent-earlier s rows n has-row)
+
+-- the name behind the first byte
+pub name-below : (s rows : List ℕ) (n : ℕ) (kind : DocumentType) (parent r : Role) (f e : ℕ) → f ≡ getD rows (4 * n + 2) 0 → e ≡ nameEnd s (f + 1) → r ≡ childRole kind parent (take (e - (f + 1)) (drop (f + 1) s)) → r ≡ childRole kind parent (nameOf s rows n)
+name-below s rows n kind parent r f e q g h = rw (← q, ← g) h
+
+-- ---- a higher bound changes nothing, so the role of an element is told by its parent's role
+module _ (s rows : List ℕ) (t : DocumentType) where
+  -- what is told of the parent's role is the same where the parent's role is, if there is a row
+  by-row : (n : ℕ) (a b : Role) → (hasRow s rows n ≡ true → a ≡ b) → pick (hasRow s rows n) (childRole t a (nameOf s rows n)) Unknown ≡ pick (hasRow s rows n) (childRole t b (nameOf s rows n)) Unknown
+  by-row n a b f = go (hasRow s rows n) f
+    where
+      go : (h : Bool) → (h ≡ true → a ≡ b) → pick h (childRole t a (nameOf s rows n)) Unknown ≡ pick h (childRole t b (nameOf s rows n)) Unknown
+      go true f = ap (λ (r : Role). childRole t r (nameOf s rows n)) (f refl)
+      go false f = refl
+
+  pub enough : (k j n : ℕ) → n ≤ k → n ≤ j → roleWithin s rows t k n ≡ roleWithin s rows t j n
+  unfolding roleWithin
+  enough zero zero n h g = refl
+  enough zero (suc j) n h g =
+      let z : n ≡ 0 = omega arith in
+      rw (eq-eqb n 0 z)
+  enough (suc k) zero n h g =
+      let z : n ≡ 0 = omega arith in
+      rw (eq-eqb n 0 z)
+  enough (suc k) (suc j) n h g =
+      ap (pick (eqb n 0) Root) (by-row n _ _ (λ e. enough k j (parentOf rows n) (omega (arith, parent-earlier s rows n e)) (omega (arith, parent-earlier s rows n e))))
+
+  pub role-root : (n : ℕ) → n ≡ 0 → Root ≡ roleOf s rows t n
+  unfolding roleOf roleWithin
+  role-root zero e = refl
+  role-root (suc n) e = absurd (omega arith)
+
+  pub role-told : (n : ℕ) → (n ≡ 0 → ⊥) → roleOf s rows t n ≡ pick (hasRow s rows n) (childRole t (roleOf s rows t (parentOf rows n)) (nameOf s rows n)) Unknown
+  unfolding roleOf roleWithin
+  role-told zero z = absurd (z refl)
+  role-told (suc n) z =
+      rw (ne-eqb (suc n) 0 z)
+      (by-row (suc n) _ _ (λ e. enough n (parentOf rows (suc n)) (parentOf rows (suc n)) (omega (arith, parent-earlier s rows (suc n) e)) (omega arith)))
+
+  module _ (n : ℕ) (z : n ≡ 0 → ⊥) (b : Bool) (e : b ≡ hasRow s rows n) where
+    pub role-none : b ≡ false → Unknown ≡ roleOf s rows t n
+    role-none f = sym (role-told n z ∙ rw (← e, f))
+
+    pub role-child : b ≡ true → (p : ℕ) → p ≡ getD rows (4 * n + 1) 0 → (a r : Role) → a ≡ roleOf s rows t p → r ≡ childRole t a (nameOf s rows n) → r ≡ roleOf s rows t n
+    role-child f p g a r h q = sym (role-told n z ∙ rw (← e, f, ← g, ← h, ← q))

@@ -1,0 +1,73 @@
+-- Procedures 31 to 38 (document 01, "Registration"). An entity's operation codes are the codes in its performances: an act definition and a
+-- performance stand between.
+-- Assumes nothing.
+use Prim.Native.Nat.{ℕ}
+use mathlib.Core.Bool.{Bool}
+use mathlib.Core.List.{List}
+use Rattle.text_scan.specs.Choice.{pick, _or_, _and_, not}
+use Rattle.text_scan.specs.Bytes.{text}
+use Rattle.text_scan.specs.declared.Found.{Found}
+use Rattle.judge_paths.specs.declared.Role.the-variants.{Labeler, Registrant, Entity3, Establishment, Entity4, Addr, OperationCode}
+use Rattle.judge_draft.specs.declared.Demand.{Demand}
+use Rattle.judge_draft.specs.declared.Demand.the-variants.{CodeRow}
+use Rattle.judge_draft.specs.declared.Test.the-variants.{Any, Agent, Import}
+use Rattle.judge_draft.specs.Drafts.{Draft, is, isEmpty}
+use Rattle.judge_draft.specs.Chosen.{agentCode, importCode, attributeIs, ancestor, chosen, wanted, kids, onlyOne, one, oneHas, onlyKid}
+use Rattle.judge_draft.specs.Demands.{demandIf}
+use Rattle.judge_organisations.specs.Organisations.{isRequest}
+use Rattle.judge_contacts.specs.Contacts.{addressHolds, isUsa}
+
+-- ---- 31 and 32: an organisation stands two levels below the one above it
+unfoldable pub breaks31 : Draft → ℕ → Bool
+breaks31 d n =
+    is d Labeler n and not (isRequest (d .type)) and not (one (onlyOne (chosen d (wanted Registrant 2 Any) n)))
+
+unfoldable pub breaks32 : Draft → ℕ → Bool
+breaks32 d n = is d Registrant n and isEmpty (chosen d (wanted Establishment 2 Any) n)
+
+-- ---- operation codes
+abbrev pub operations : Draft → ℕ → List ℕ
+operations d n = chosen d (wanted OperationCode 3 Any) n
+
+unfoldable pub ofNci : Draft → ℕ → Bool
+ofNci d k = attributeIs d (text "codeSystem") (text "2.16.840.1.113883.3.26.1.1") k
+
+-- 33: of the NCI system, agent or import
+unfoldable pub isAgency : Draft → ℕ → Bool
+isAgency d k = ofNci d k and (attributeIs d (text "code") agentCode k or attributeIs d (text "code") importCode k)
+
+unfoldable pub breaks33 : Draft → ℕ → Bool
+breaks33 d n = is d Entity4 n and not (oneHas (onlyOne (operations d n)) (isAgency d))
+
+-- 34: at the code
+unfoldable pub demand34 : Draft → ℕ → Demand
+demand34 d n = demandIf (is d OperationCode n) (CodeRow n)
+
+-- ---- 35 and 36: at the establishment. The operation codes four levels below it are those of its level 4 entities
+unfoldable pub inUsa : Draft → ℕ → Bool
+inUsa d n = oneHas (onlyKid d n Addr) (isUsa d)
+
+unfoldable pub breaks35 : Draft → ℕ → Bool
+breaks35 d n =
+    is d Establishment n and addressHolds d n and not (inUsa d n)
+    and isEmpty (chosen d (wanted OperationCode 4 Agent) n)
+
+unfoldable pub breaks36 : Draft → ℕ → Bool
+breaks36 d n =
+    is d Establishment n and addressHolds d n and inUsa d n
+    and not
+    (isEmpty (chosen d (wanted OperationCode 4 Agent) n) and isEmpty (chosen d (wanted OperationCode 4 Import) n))
+
+-- ---- 37 and 38: the entity of an establishment
+unfoldable pub hasEstablishment : Draft → ℕ → Bool
+hasEstablishment d n = is d Entity3 n and not (isEmpty (kids d n Establishment))
+
+-- the entity of level 3 that was met last, where n follows
+unfoldable pub entityAt : Draft → ℕ → ℕ → ℕ
+entityAt d last n = pick (is d Entity3 n) n last
+
+unfoldable pub breaks37 : Draft → ℕ → Bool
+breaks37 d n = hasEstablishment d n and isEmpty (operations d n)
+
+unfoldable pub breaks38 : Draft → ℕ → Bool
+breaks38 d n = is d OperationCode n and not (ofNci d n) and hasEstablishment d (ancestor d 3 n)

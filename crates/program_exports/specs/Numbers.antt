@@ -1,0 +1,61 @@
+-- What the exported functions return: document 01's number and value for each case of an answer, and the part that a view shows.
+-- Assumes nothing.
+use Prim.Native.Nat.{ℕ}
+use mathlib.Core.Path.{_≡_}
+use mathlib.Core.List.{List}
+use Rattle.list_findings.specs.declared.Merged.{Merged}
+use Rattle.list_findings.specs.declared.Merged.the-variants.{Findings as Kept, Refused as Unmerged}
+use Rattle.list_findings.specs.Merge.{Outcome as Merging}
+use Rattle.judge_check.specs.declared.Answer.{Answer}
+use Rattle.judge_check.specs.declared.Answer.the-variants.{Findings, Refused}
+use Rattle.judge_check.specs.Check.{Outcome as Checking}
+use Rattle.xml_values.specs.declared.View.{View}
+use Rattle.xml_values.specs.declared.View.the-variants.{Document, Scratch}
+use Rattle.xml_value_reader.specs.Shown.{Outcome as Reading}
+use Rattle.program_exports.specs.declared.Numbers.{Numbers}
+use Rattle.program_exports.specs.declared.Part.{Part}
+
+-- ---- the check: the refusal's number, 0 where nothing is refused
+abbrev pub numberOf : Answer → ℕ
+numberOf (Findings count) = 0
+numberOf (Refused number value) = number
+
+-- what the refusal returns, or the number of findings
+abbrev pub valueOf : Answer → ℕ
+valueOf (Findings count) = count
+valueOf (Refused number value) = value
+
+abbrev pub checkNumbers : Answer → Numbers
+checkNumbers answer = record { refusal = numberOf answer; value = valueOf answer }
+
+-- ---- the merge, likewise
+abbrev pub mergeNumberOf : Merged → ℕ
+mergeNumberOf (Kept count) = 0
+mergeNumberOf (Unmerged number value) = number
+
+abbrev pub mergeValueOf : Merged → ℕ
+mergeValueOf (Kept count) = count
+mergeValueOf (Unmerged number value) = value
+
+abbrev pub mergeNumbers : Merged → Numbers
+mergeNumbers answer = record { refusal = mergeNumberOf answer; value = mergeValueOf answer }
+
+-- ---- the value reader: a part of the document, or the front of the scratch area
+abbrev pub partOf : View → Part
+partOf (Document a e) = record { in_scratch = 0; first = a; after = e }
+partOf (Scratch n) = record { in_scratch = 1; first = 0; after = n }
+
+-- ---- the contracts: what is returned, and what the lent memory then holds
+pub record Checks (x : Checking) (numbers : Numbers) (scratch table list : List ℕ) : Type 0 where
+  pub answers : numbers ≡ checkNumbers (x .answer)
+  pub scratches : scratch ≡ x .scratch
+  pub tables : table ≡ x .table
+  pub lists : list ≡ x .list
+
+pub record Merges (x : Merging) (numbers : Numbers) (list : List ℕ) : Type 0 where
+  pub answers : numbers ≡ mergeNumbers (x .answer)
+  pub lists : list ≡ x .list
+
+pub record Reads (x : Reading) (part : Part) (scratch : List ℕ) : Type 0 where
+  pub answers : part ≡ partOf (x .view)
+  pub scratches : scratch ≡ x .scratch

@@ -1,0 +1,170 @@
+// Reads blocks of two lists and a room from its standard input, merges each, and writes the answers in the printed form.
+ghost use mathlib.Core.Path.{_≡_};
+ghost use Prim.Native.Nat.{_+_, _≤_, min};
+ghost use lib.ListN.{length};
+use libc::STDIN_FILENO;
+use libc::STDOUT_FILENO;
+use list_findings::Finding;
+use list_findings::Merged;
+
+// The place of the first byte b from `at` on, or the length.
+fn end_of(s: &[u8], at: usize, b: u8) -> usize
+    requires { ⌜ at ≤ length (now s) ⌝ }
+    ensures { λ r. ⌜ (at ≤ r) × (r ≤ length (now (s .entry))) ⌝ }
+{
+    let mut i = at;
+    while i < s.len() {
+        if s[i] == b {
+            return i;
+        }
+        i += 1;
+    }
+    i
+}
+
+// The place behind m, unless that is the end.
+fn behind(s: &[u8], m: usize) -> usize
+    requires { ⌜ m ≤ length (now s) ⌝ }
+    ensures { λ r. ⌜ r ≡ min (m + 1) (length (now (s .entry))) ⌝ }
+{
+    if m < s.len() { m + 1 } else { m }
+}
+
+// The number that digits write; 0 where it does not fit.
+fn number(s: &[u8]) -> u32 {
+    let mut value: u64 = 0;
+    let mut i = 0;
+    while i < s.len() {
+        let digit = s[i];
+        if digit < 48 {
+            return 0;
+        }
+        if 57 < digit {
+            return 0;
+        }
+        value = value * 10 + (digit - 48) as u64;
+        if 4294967295 < value {
+            return 0;
+        }
+        i += 1;
+    }
+    value as u32
+}
+
+// The numbers of a line, parted by spaces, from `at` on: written from the front of a list, and how many there are.
+fn numbers(line: &[u8], at: usize, list: &mut [u32]) -> usize
+    ensures { λ r. ⌜ r ≤ length (now (list .entry)) ⌝ }
+{
+    let mut i = at;
+    let mut n = 0;
+    while i < line.len() {
+        let e = end_of(line, i, b' ');
+        if list.len() <= n {
+            return n;
+        }
+        list[n] = number(&line[i..e]);
+        n += 1;
+        i = behind(line, e);
+    }
+    n
+}
+
+fn write_number(n: u64, end: &[u8]) {
+    io::print_decimal(STDOUT_FILENO, n);
+    io::write_all(STDOUT_FILENO, end);
+}
+
+fn write_finding(finding: Finding) {
+    write_number(finding.procedure as u64, b" ");
+    write_number(finding.first as u64, b" ");
+    write_number(finding.after as u64, b"\n");
+}
+
+// The first n records of a list, a line each.
+fn write_findings(list: &[u32], n: usize) {
+    let mut k = 0;
+    let mut left = n;
+    while 0 < left {
+        if list_findings::has_record(list, k) {
+            write_finding(list_findings::record_at(list, k));
+            k += list_findings::WIDTH;
+            left -= 1;
+            continue;
+        }
+        return;
+    }
+}
+
+fn write_count(n: usize) {
+    io::write_all(STDOUT_FILENO, b"findings ");
+    write_number(n as u64, b"\n");
+}
+
+fn write_refusal(number: u32, place: usize) {
+    io::write_all(STDOUT_FILENO, b"refused ");
+    write_number(number as u64, b" at ");
+    write_number(place as u64, b"\n");
+}
+
+// Merges two lists into a third, and writes the answer.
+fn merge_block(a: &[u32], b: &[u32], out: &mut [u32]) {
+    let answer = list_merge_numbers::merge(a, b, out);
+    match answer {
+        Merged::Findings(count) => {
+            write_count(count);
+            write_findings(out, count);
+        }
+        Merged::Refused(number, place) => write_refusal(number, place),
+    }
+}
+
+// The numbers of so many records, of 64 at most.
+fn room_for(n: u32) -> usize
+    ensures { λ r. ⌜ r ≤ 192 ⌝ }
+{
+    if n < 64 {
+        return n as usize * list_findings::WIDTH;
+    }
+    192
+}
+
+// The block whose first line starts at i: two lists and a room, a line each.
+fn merge_at(s: &[u8], i: usize)
+    requires { ⌜ i ≤ length (now s) ⌝ }
+{
+    let mut a = [0u32; 48];
+    let mut b = [0u32; 48];
+    let mut out = [0u32; 192];
+    let mut room = [0u32; 1];
+    let e = end_of(s, i, b'\n');
+    let n = numbers(&s[i..e], 2, &mut a);
+    let j = behind(s, e);
+    let f = end_of(s, j, b'\n');
+    let m = numbers(&s[j..f], 2, &mut b);
+    let k = behind(s, f);
+    let g = end_of(s, k, b'\n');
+    numbers(&s[k..g], 5, &mut room);
+    let r = room_for(room[0]);
+    merge_block(&a[..n], &b[..m], &mut out[..r]);
+}
+
+// Whether a block starts at i.
+fn starts(s: &[u8], i: usize) -> bool {
+    text_scan::text_at(s, i, b"a ")
+}
+
+fn merge_all(s: &[u8]) {
+    let mut i = 0;
+    while i < s.len() {
+        if starts(s, i) {
+            merge_at(s, i);
+        }
+        i = behind(s, end_of(s, i, b'\n'));
+    }
+}
+
+fn main() {
+    let mut space = io::large_buffer();
+    let n = io::read_full(STDIN_FILENO, &mut space);
+    merge_all(&space[..n]);
+}

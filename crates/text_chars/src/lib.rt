@@ -1,0 +1,159 @@
+// The characters of a document: UTF-8 by RFC 3629, and only the characters of XML 1.0's production [2], `Char`.
+ghost use mathlib.Core.Path.{_≡_};
+ghost use Prim.Native.Nat.{_+_, _<_, _≤_};
+ghost use lib.ListN.{length, getD};
+ghost use lib.Seq.{sets};
+ghost use Rattle.text_chars.specs.Utf8.{isXmlChar, sound, widthOf, charAt, firstBad};
+ghost use Rattle.text_chars.specs.Encode.{encoded};
+
+pub fn is_char(c: u32) -> bool
+    ensures { λ r. ⌜ r ≡ isXmlChar c ⌝ }
+{
+    if c < 0x20 {
+        if c == 9 {
+            return true;
+        }
+        if c == 10 {
+            return true;
+        }
+        return c == 13;
+    }
+    if c <= 0xD7FF {
+        return true;
+    }
+    if c < 0xE000 {
+        return false;
+    }
+    if c <= 0xFFFD {
+        return true;
+    }
+    if c < 0x10000 {
+        return false;
+    }
+    c <= 0x10FFFF
+}
+
+// The width of a form, where the code point is sound in it, and else 0.
+fn sound_width(w: usize, least: u32, c: u32) -> usize
+    ensures { λ r. ⌜ r ≡ widthOf (sound w least c) ⌝ }
+{
+    if c < least {
+        return 0;
+    }
+    if is_char(c) {
+        return w;
+    }
+    0
+}
+
+// The width of the character at i, whose first bytes a and b open a form of three or four bytes.
+fn long_width(s: &[u8], i: usize, a: u32, b: u32) -> usize
+    requires { ⌜ (i < length (now s)) × (a ≡ getD (now s) i 0) × (b ≡ getD (now s) (i + 1) 0) × (0xE0 ≤ a) × (a < 256) × (0x80 ≤ b) × (b ≤ 0xBF) ⌝ }
+    ensures { λ r. ⌜ r ≡ widthOf (charAt (now (s .entry)) i) ⌝ }
+{
+    let c = text_scan::byte(s, i + 2);
+    if c < 0x80 {
+        return 0;
+    }
+    if 0xBF < c {
+        return 0;
+    }
+    if a < 0xF0 {
+        return sound_width(3, 0x800, (a - 0xE0) * 4096 + (b - 0x80) * 64 + (c - 0x80));
+    }
+    if 0xF7 < a {
+        return 0;
+    }
+    let d = text_scan::byte(s, i + 3);
+    if d < 0x80 {
+        return 0;
+    }
+    if 0xBF < d {
+        return 0;
+    }
+    sound_width(
+        4,
+        0x10000,
+        (a - 0xF0) * 262144 + (b - 0x80) * 4096 + (c - 0x80) * 64 + (d - 0x80),
+    )
+}
+
+// The width of the character at i, or 0 where none stands there.
+fn width_at(s: &[u8], i: usize) -> usize
+    requires { ⌜ i < length (now s) ⌝ }
+    ensures { λ r. ⌜ r ≡ widthOf (charAt (now (s .entry)) i) ⌝ }
+{
+    let a = text_scan::byte(s, i);
+    if a < 0x80 {
+        return sound_width(1, 0, a);
+    }
+    if a < 0xC0 {
+        return 0;
+    }
+    let b = text_scan::byte(s, i + 1);
+    if b < 0x80 {
+        return 0;
+    }
+    if 0xBF < b {
+        return 0;
+    }
+    if a < 0xE0 {
+        return sound_width(2, 0x80, (a - 0xC0) * 64 + (b - 0x80));
+    }
+    long_width(s, i, a, b)
+}
+
+// The first byte of the document that is bad: a byte order mark at the front, or the first byte that begins no character; or
+// the length, where none is bad.
+pub fn first_bad(s: &[u8]) -> usize
+    ensures { λ r. ⌜ r ≡ firstBad (now (s .entry)) ⌝ }
+{
+    if text_scan::text_at(s, 0, b"\xEF\xBB\xBF") {
+        return 0;
+    }
+    let mut i = 0;
+    while i < s.len() {
+        let b = s[i];
+        if 0x20 <= b {
+            if b < 0x80 {
+                i += 1;
+                continue;
+            }
+        }
+        let w = width_at(s, i);
+        if w == 0 {
+            return i;
+        }
+        i += w;
+    }
+    s.len()
+}
+
+// Stores the bytes of a code point from `at` on, and answers how many they are.
+pub fn encode(c: u32, out: &mut [u8], at: usize) -> usize
+    requires { ⌜ (c ≤ 0x10FFFF) × (at + length (encoded c) ≤ length (now out)) ⌝ }
+    ensures { λ r. ⌜ (r ≡ length (encoded c)) × (now (out .exit) ≡ sets (now (out .entry)) at (encoded c)) ⌝ }
+{
+    let last = (0x80 + c % 64) as u8;
+    if c < 0x80 {
+        out[at] = c as u8;
+        return 1;
+    }
+    if c < 0x800 {
+        out[at] = (0xC0 + c / 64) as u8;
+        out[at + 1] = last;
+        return 2;
+    }
+    let third = (0x80 + c / 64 % 64) as u8;
+    if c < 0x10000 {
+        out[at] = (0xE0 + c / 4096) as u8;
+        out[at + 1] = third;
+        out[at + 2] = last;
+        return 3;
+    }
+    out[at] = (0xF0 + c / 262144) as u8;
+    out[at + 1] = (0x80 + c / 4096 % 64) as u8;
+    out[at + 2] = third;
+    out[at + 3] = last;
+    4
+}

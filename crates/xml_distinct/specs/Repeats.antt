@@ -1,0 +1,27 @@
+-- Whether two of many positions have the same name.
+-- Assumes nothing.
+use Prim.Native.Nat.{ℕ}
+use mathlib.Core.Bool.{Bool, false}
+use mathlib.Core.List.{List, [], _∷_}
+use lib.Dec.{eqb}
+use Rattle.text_scan.specs.Choice.{_or_}
+use Rattle.text_scan.specs.Lists.{some, pairs}
+use Rattle.sort_compare.specs.Keys.{nameOf}
+
+-- the name at position b is t
+abbrev pub isCalled : List ℕ → List ℕ → ℕ → Bool
+isCalled s t b = pairs eqb t (nameOf s b)
+
+-- two of them have the same name
+unfoldable pub twice : List ℕ → List ℕ → Bool
+twice s [] = false
+twice s (b ∷ bs) = some (isCalled s (nameOf s b)) bs or twice s bs
+
+-- two neighbours have the same name, where b stands before the others
+unfoldable pub neighboursFrom : List ℕ → ℕ → List ℕ → Bool
+neighboursFrom s b [] = false
+neighboursFrom s b (c ∷ cs) = isCalled s (nameOf s b) c or neighboursFrom s c cs
+
+unfoldable pub neighbours : List ℕ → List ℕ → Bool
+neighbours s [] = false
+neighbours s (b ∷ bs) = neighboursFrom s b bs

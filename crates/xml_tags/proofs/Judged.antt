@@ -1,0 +1,112 @@
+-- A tag, judged by what its reading brought and kept; and where it ends, for callers.
+-- Assumes nothing.
+use mathlib.Core.Path.{_≡_, refl, sym, _∙_, ap}
+use mathlib.Core.Bool.{Bool, true, false}
+use mathlib.Core.List.{List}
+use Prim.Native.Nat.{ℕ, _+_, _-_, _<_, _≤_}
+use Prim.Native.Char.{code}
+use native.Mathlib.Nat.{zero-add}
+use native.Mathlib.Omega.{arith}
+use borrow.Author.Tests.{eq-eqb, ne-eqb, lt-ltb, le-ltb, le-leb, lt-leb, leb-true}
+use lib.Dec.{ltb, leb}
+use lib.ListN.{length, take, drop, getD}
+use lib.Seq.{sets, sets-eq, length-sets, take-at, length-take-le}
+use Rattle.text_scan.specs.Choice.{pick, _or_}
+use Rattle.text_scan.proofs.Tests.{pick-case, or-true}
+use Rattle.xml_reader.specs.Limits.{nameLimit, valueLimit, attributesLimit}
+use Rattle.xml_tags.specs.declared.Body.{Body}
+use Rattle.xml_tags.specs.declared.Tag.the-variants.{Refused}
+use Rattle.xml_tags.specs.Names.{elementEnd}
+use Rattle.xml_tags.specs.Rows.{items, ending}
+use Rattle.xml_tags.specs.Tags.{attributes, repeated, someLong, pastLimit, isRefused, judged, tagTo, tagAt}
+use Rattle.xml_tags.specs.Reading.{bodyOf}
+use Rattle.xml_tags.proofs.Reading.{brought}
+
+-- ---- the places that are kept are the list, where there is room
+pub kept-whole : (l bs : List ℕ) → length bs ≤ length l → take (length bs) (sets l 0 bs) ≡ bs
+kept-whole l bs h =
+    let g : 0 + length bs ≤ length l = omega arith in
+    rw (sets-eq bs l 0 g) (take-at bs (drop (0 + length bs) l) (length bs) refl)
+
+pub part-length : (l : List ℕ) (k : ℕ) → k ≤ length l → k ≡ length (take k l)
+part-length l k h = sym (length-take-le k l h)
+
+module _ (s starts : List ℕ) (count at : ℕ) (r : Bool) where
+  pub by-places : count ≤ length starts → r ≡ repeated s (take count starts) → r ≡ pick (leb count (length starts)) (repeated s (take count starts)) (repeated s (items (attributes s at)))
+  by-places h e = rw (le-leb count (length starts) h) e
+
+  pub by-reading : length starts < count → r ≡ repeated s (items (attributes s at)) → r ≡ pick (leb count (length starts)) (repeated s (take count starts)) (repeated s (items (attributes s at)))
+  by-reading h e = rw (lt-leb count (length starts) h) e
+
+-- two of the same name, asked of the places or of the tag
+either-way : (s zeros starts bs : List ℕ) (count : ℕ) → starts ≡ sets zeros 0 bs → count ≡ length bs → pick (leb count (length starts)) (repeated s (take count starts)) (repeated s bs) ≡ repeated s bs
+either-way s zeros starts bs count e f =
+    pick-case (λ r. r ≡ repeated s bs) (leb count (length starts)) (repeated s (take count starts)) (repeated s bs)
+    (λ h. ap (repeated s) (ap (take count) e ∙ (rw f (kept-whole zeros bs (room (leb-true count (length starts) h))))))
+    (λ _. refl)
+  where
+    room : count ≤ length starts → length bs ≤ length zeros
+    room h = omega (arith, ap length e, length-sets zeros 0 bs)
+
+swapped : (a b : Bool) → a or b ≡ b or a or false
+swapped true true = refl
+swapped true false = refl
+swapped false true = refl
+swapped false false = refl
+
+-- ---- piece by piece
+module _ (s : List ℕ) (at b : ℕ) (eb : b ≡ getD s at 0) where
+  pub no-tag : (b ≡ code "<" → ⊥) → Refused 7 ≡ tagAt s at
+  unfolding tagTo
+  no-tag f = rw (← eb, ne-eqb b (code "<") f)
+
+  module _ (y : b ≡ code "<") (n : ℕ) (en : n ≡ elementEnd s (at + 1)) where
+    pub no-element : n ≤ at + 1 → Refused 7 ≡ tagAt s at
+    unfolding tagTo
+    no-element h = rw (← eb, eq-eqb b (code "<") y, ← en, le-ltb (at + 1) n h)
+
+    module _ (h : at + 1 < n) (body : Body) (e : body ≡ bodyOf s 0 false (attributes s n)) where
+      tells : body ≡ record { ending = ending (attributes s n); count = 0 + length (items (attributes s n)); over = someLong s (items (attributes s n)) }
+      tells = e ∙ brought s 0 false (attributes s n)
+
+      counted : body .count ≡ length (items (attributes s n))
+      counted = ap (λ (x : Body). x .count) tells ∙ zero-add (length (items (attributes s n)))
+
+      named : tagAt s at ≡ judged s (n - (at + 1)) (items (attributes s n)) (body .ending)
+      unfolding tagTo
+      named = rw (← eb, eq-eqb b (code "<") y, ← en, lt-ltb (at + 1) n h) (ap (judged s (n - (at + 1)) (items (attributes s n))) (sym (ap (λ (x : Body). x .ending) tells)))
+
+      module _ (r : Bool) (er : r ≡ isRefused (body .ending)) where
+        pub tag-malformed : r ≡ true → Refused 7 ≡ tagAt s at
+        unfolding judged
+        tag-malformed f = sym (named ∙ rw (← er, f))
+
+        module _ (f : r ≡ false) (zeros starts : List ℕ) (es : starts ≡ sets zeros 0 (items (attributes s n))) (u : Bool) (eu : u ≡ pick (leb (body .count) (length starts)) (repeated s (take (body .count) starts)) (repeated s (items (attributes s n)))) where
+          told : u ≡ repeated s (items (attributes s n))
+          told = eu ∙ either-way s zeros starts (items (attributes s n)) (body .count) es counted
+
+          pub tag-repeats : u ≡ true → Refused 7 ≡ tagAt s at
+          unfolding judged
+          tag-repeats g = sym (named ∙ rw (← er, f, ← told, g))
+
+          module _ (g : u ≡ false) where
+            limited : tagAt s at ≡ pick (pastLimit s (n - (at + 1)) (items (attributes s n))) (Refused 8) (body .ending)
+            unfolding judged
+            limited = named ∙ rw (← er, f, ← told, g)
+
+            pub tag-many : attributesLimit < body .count → Refused 8 ≡ tagAt s at
+            tag-many k =
+                sym (limited ∙ rw (← counted, lt-ltb attributesLimit (body .count) k) (rw (or-true (ltb nameLimit (n - (at + 1))))))
+
+            module _ (k : body .count ≤ attributesLimit) (o : Bool) (eo : o ≡ body .over or ltb nameLimit (n - (at + 1)) or ltb valueLimit 0) where
+              past : pastLimit s (n - (at + 1)) (items (attributes s n)) ≡ o
+              past =
+                  rw (← counted, le-ltb attributesLimit (body .count) k)
+                  (swapped (ltb nameLimit (n - (at + 1))) (someLong s (items (attributes s n)))
+                  ∙ sym (eo ∙ ap (λ (x : Body). x .over or ltb nameLimit (n - (at + 1)) or false) tells))
+
+              pub tag-over : o ≡ true → Refused 8 ≡ tagAt s at
+              tag-over z = sym (limited ∙ rw (past, z))
+
+              pub tag-whole : o ≡ false → body .ending ≡ tagAt s at
+              tag-whole z = sym (limited ∙ rw (past, z))

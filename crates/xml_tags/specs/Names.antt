@@ -1,0 +1,30 @@
+-- Element names, which have no colon, and the question whether a name is a given text.
+-- Assumes nothing.
+use Prim.Native.Nat.{ℕ, _-_}
+use Prim.Native.Char.{code}
+use mathlib.Core.Bool.{Bool}
+use mathlib.Core.List.{List}
+use lib.Dec.{eqb}
+use lib.ListN.{length, getD, take, drop}
+use Rattle.text_scan.specs.Choice.{pick, _and_, not}
+use Rattle.text_scan.specs.Lists.{stands, runFrom}
+use Rattle.xml_markup.specs.Names.{isNameStart, isNameChar, nameEnd}
+
+-- what an element name begins with, and what it goes on with
+abbrev pub isElementStart : ℕ → Bool
+isElementStart b = isNameStart b and not (eqb b (code ":"))
+
+abbrev pub isElementChar : ℕ → Bool
+isElementChar b = isNameChar b and not (eqb b (code ":"))
+
+-- the place after the element name at position i, which is i where none starts
+unfoldable pub elementEnd : List ℕ → ℕ → ℕ
+elementEnd s i = pick (isElementStart (getD s i 0)) (runFrom isElementChar s i) i
+
+-- the name at position i
+abbrev pub nameAt : List ℕ → ℕ → List ℕ
+nameAt s i = take (nameEnd s i - i) (drop i s)
+
+-- the name at position i is the text t: the text stands there, and the name is as long
+unfoldable pub nameIs : List ℕ → List ℕ → ℕ → Bool
+nameIs t s i = stands t s i and eqb (nameEnd s i - i) (length t)

@@ -1,0 +1,187 @@
+-- How a value is shown, by the tests of the code; and that the bytes which are shown are those that the value says.
+-- Assumes nothing.
+use mathlib.Core.Path.{_≡_, refl, sym, _∙_}
+use mathlib.Core.Bool.{Bool, true, false}
+use mathlib.Core.List.{List, [], _∷_, _++_}
+use Prim.Native.Nat.{ℕ, _+_, _-_, _<_, _≤_}
+use Prim.Native.Char.{code}
+use native.Mathlib.Omega.{arith}
+use borrow.Author.Tests.{eq-eqb, ne-eqb}
+use lib.Dec.{eqb}
+use lib.ListN.{length, take, drop, getD, length-append, length-drop}
+use lib.Seq.{take-at, length-take-le}
+use Rattle.text_scan.specs.Choice.{pick, not}
+use Rattle.text_scan.specs.Lists.{every}
+use Rattle.text_scan.proofs.Tests.{and-left, and-right, and-false}
+use Rattle.text_scan.proofs.Lists.{Every, every-goes, every-stops}
+use Rattle.xml_reader.specs.Limits.{valueLimit}
+use Rattle.text_facts.specs.Strings.{equal}
+use Rattle.xml_references.specs.Decoded.{replaced, part, decoded, isPlain}
+use Rattle.xml_references.proofs.Replaced.{decoded-most, plain-same}
+use Rattle.xml_values.specs.declared.Place.{Place}
+use Rattle.xml_values.specs.declared.Place.the-variants.{At, Nothing}
+use Rattle.xml_values.specs.declared.View.{View}
+use Rattle.xml_values.specs.declared.View.the-variants.{Document, Scratch}
+use Rattle.xml_values.specs.Attributes.{attributePlace, valueAt, attributeOf}
+use Rattle.xml_values.specs.Views.{isShown, viewOf, plainOf, scratchAfter, seen, InRange, Shows}
+use Rattle.xml_values.proofs.Attributes.{Within, attribute-within}
+
+-- ---- the loop over raw bytes
+module _ (s : List ℕ) (i : ℕ) (l : Every isShown s i) (h : i < length s) where
+  pub shown-reference : getD s i 0 ≡ code "&" → false ≡ every isShown s
+  shown-reference a = every-stops isShown s i l false h (rw (eq-eqb (getD s i 0) (code "&") a)) refl
+
+  pub shown-markup : getD s i 0 ≡ code "<" → false ≡ every isShown s
+  shown-markup a = every-stops isShown s i l false h (rw (eq-eqb (getD s i 0) (code "<") a) (sym (and-false (not (eqb (getD s i 0) (code "&")))))) refl
+
+  pub shown-goes : (getD s i 0 ≡ code "&" → ⊥) → (getD s i 0 ≡ code "<" → ⊥) → Every isShown s (i + 1)
+  shown-goes a b = every-goes isShown s i l true h (rw (ne-eqb (getD s i 0) (code "&") a, ne-eqb (getD s i 0) (code "<") b)) refl
+
+-- what is shown as it stands has no reference
+pub shown-plain : (xs : List ℕ) → every isShown xs ≡ true → every isPlain xs ≡ true
+unfolding every
+shown-plain [] e = refl
+shown-plain (x ∷ xs) e =
+    rw (and-left (not (eqb x (code "&"))) (not (eqb x (code "<"))) (and-left (isShown x) (every isShown xs) e)) (shown-plain xs (and-right (isShown x) (every isShown xs) e))
+
+-- ---- by the tests of the code, which was told the place p
+module _ (s : List ℕ) (place : Place) (bytes out : List ℕ) (p : Place) (ep : p ≡ place) where
+  pub shows-nothing : p ≡ Nothing → Shows s place bytes out (Document 0 0) out
+  unfolding viewOf scratchAfter
+  shows-nothing z = record { answers = rw (← ep, z); leaves = rw (← ep, z) }
+
+  module _ (a e : ℕ) (z : p ≡ At a e) (t : Bool) (et : t ≡ every isShown (part s a e)) where
+    pub shows-part : t ≡ true → Shows s place bytes out (Document a e) out
+    unfolding viewOf scratchAfter
+    shows-part f = record { answers = rw (← ep, z, ← et, f); leaves = rw (← ep, z, ← et, f) }
+
+    pub shows-front : (n : ℕ) (out′ : List ℕ) → t ≡ false → (n ≡ length bytes) × (out′ ≡ bytes ++ drop n out) → Shows s place bytes out (Scratch n) out′
+    unfolding viewOf scratchAfter
+    shows-front n out′ f g = record { answers = rw (← ep, z, ← et, f, g .0); leaves = rw (← ep, z, ← et, f, ← (g .0)) (g .1) }
+
+-- ---- where it says the bytes there, by the same tests
+module _ (s : List ℕ) (place p : Place) (ep : p ≡ place) where
+  pub plain-nothing : p ≡ Nothing → At 0 0 ≡ plainOf s place
+  unfolding plainOf
+  plain-nothing z = rw (← ep, z)
+
+  module _ (a e : ℕ) (z : p ≡ At a e) (t : Bool) (et : t ≡ every isShown (part s a e)) where
+    pub plain-part : t ≡ true → At a e ≡ plainOf s place
+    unfolding plainOf
+    plain-part f = rw (← ep, z, ← et, f)
+
+    pub not-plain : t ≡ false → Nothing ≡ plainOf s place
+    unfolding plainOf
+    not-plain f = rw (← ep, z, ← et, f)
+
+-- ---- what is seen
+-- a value with this raw place, which is within and within the limit: it says the bytes there, where they are shown as they stand, and never more
+abbrev pub Says : List ℕ → Place → List ℕ → Type 0
+Says s (At a e) bytes =
+    (a ≤ e) × (e ≤ length s) × (e - a ≤ valueLimit) × (every isShown (part s a e) ≡ true → bytes ≡ part s a e) × (length bytes ≤ e - a)
+Says s Nothing bytes = bytes ≡ []
+
+pub says-most : (s : List ℕ) (place : Place) (bytes : List ℕ) → Says s place bytes → length bytes ≤ valueLimit
+says-most s (At a e) bytes k = omega (arith, k .2, k .4)
+says-most s Nothing bytes k = rw k (omega arith)
+
+module _ (s bytes scratch : List ℕ) (room : 4096 ≤ length scratch) where
+  -- of the view that the definition gives, and the scratch area that it leaves
+  Seen : View → Type 0
+  Seen v = InRange s (scratchAfter v bytes scratch) v × (seen s (scratchAfter v bytes scratch) v ≡ bytes)
+
+  seen-at : (a e : ℕ) → Says s (At a e) bytes → (t : Bool) → every isShown (part s a e) ≡ t → Seen (pick t (Document a e) (Scratch (length bytes)))
+  unfolding Seen scratchAfter
+  seen-at a e k true q = ((k .0, k .1), sym (k .3 q))
+  seen-at a e k false q =
+      (simp (length-append, length-drop) (omega arith), take-at bytes (drop (length bytes) scratch) (length bytes) refl)
+
+  seen-of : (place : Place) → Says s place bytes → Seen (viewOf s place bytes)
+  unfolding viewOf Seen scratchAfter
+  seen-of (At a e) k = seen-at a e k (every isShown (part s a e)) refl
+  seen-of Nothing k = ((omega arith, omega arith), sym k)
+
+  module _ (place : Place) (k : Says s place bytes) (view : View) (after : List ℕ) (x : Shows s place bytes scratch view after) where
+    pub in-range : InRange s after view
+    unfolding Seen
+    in-range = rw (x .leaves, x .answers) (seen-of place k .0)
+
+    pub seen-is : seen s after view ≡ bytes
+    unfolding Seen
+    seen-is = rw (x .leaves, x .answers) (seen-of place k .1)
+
+-- ---- for callers: a value that stands within and says the bytes there
+abbrev pub AsItStands : List ℕ → List ℕ → Place → Type 0
+AsItStands s bytes (At a e) = (a ≤ e) × (e ≤ length s) × (part s a e ≡ bytes)
+AsItStands s bytes Nothing = Unit {0}
+
+pub plain-stands : (s bytes : List ℕ) (place : Place) → Says s place bytes → AsItStands s bytes (plainOf s place)
+unfolding plainOf
+plain-stands s bytes (At a e) k = go (every isShown (part s a e)) refl
+  where
+    go : (t : Bool) → every isShown (part s a e) ≡ t → AsItStands s bytes (pick t (At a e) Nothing)
+    go true q = (k .0, k .1, sym (k .3 q))
+    go false q = tt
+plain-stands s bytes Nothing k = (omega arith, omega arith, sym k)
+
+-- ---- the parts that are shown, for the code
+module _ (s scratch : List ℕ) (view : View) (r : InRange s scratch view) where
+  module _ (a e : ℕ) (z : view ≡ Document a e) where
+    pub part-ahead : a ≤ e
+    part-ahead = (rw z at r) .0
+
+    pub part-inside : e ≤ length s
+    part-inside = (rw z at r) .1
+
+    pub part-seen : part s a e ≡ seen s scratch view
+    part-seen = rw z
+
+  module _ (n : ℕ) (z : view ≡ Scratch n) where
+    pub front-length : n ≡ length (take n scratch)
+    front-length = sym (length-take-le n scratch (rw z at r))
+
+    pub front-seen : take n scratch ≡ seen s scratch view
+    front-seen = rw z
+
+-- ---- an attribute's value is shown, and seen
+pub attribute-front : (s : List ℕ) (place : Place) (out : List ℕ) (p : Place) → p ≡ place → (a e : ℕ) → p ≡ At a e → (t : Bool) → t ≡ every isShown (part s a e) → (n : ℕ) (out′ : List ℕ) → t ≡ false → (n ≡ length (decoded s a e)) × (out′ ≡ decoded s a e ++ drop n out) → Shows s place (valueAt s place) out (Scratch n) out′
+attribute-front s place out p ep a e z t et n out′ f g =
+    let q : place ≡ At a e = sym ep ∙ z in
+    shows-front s place (valueAt s place) out p ep a e z t et n out′ f (rw q g)
+
+pub attribute-says : (s : List ℕ) (first : ℕ) (name : List ℕ) → Says s (attributePlace s first name) (attributeOf s first name)
+attribute-says s first name = go (attributePlace s first name) (attribute-within s first name)
+  where
+    go : (p : Place) → Within s p → Says s p (valueAt s p)
+    go (At a e) w = (w .0, w .1, w .2, λ q. plain-same (part s a e) (shown-plain (part s a e) q), decoded-most s a e)
+    go Nothing w = refl
+
+module _ (s : List ℕ) (first : ℕ) (name scratch : List ℕ) (view : View) (after : List ℕ) (x : Shows s (attributePlace s first name) (attributeOf s first name) scratch view after) (room : 4096 ≤ length scratch) where
+  pub attribute-in-range : InRange s after view
+  attribute-in-range = in-range s (attributeOf s first name) scratch room (attributePlace s first name) (attribute-says s first name) view after x
+
+  pub attribute-seen : (r : List ℕ) → r ≡ seen s after view → r ≡ attributeOf s first name
+  attribute-seen r e = e ∙ seen-is s (attributeOf s first name) scratch room (attributePlace s first name) (attribute-says s first name) view after x
+
+-- ---- an attribute that says the bytes where it stands, and one that says these bytes
+module _ (s : List ℕ) (first : ℕ) (name : List ℕ) (p : Place) where
+  module _ (ep : p ≡ plainOf s (attributePlace s first name)) (a e : ℕ) (z : p ≡ At a e) where
+    stands : AsItStands s (attributeOf s first name) (At a e)
+    stands = rw (sym ep ∙ z) at (plain-stands s (attributeOf s first name) (attributePlace s first name) (attribute-says s first name))
+
+    pub plain-attribute-ahead : a ≤ e
+    plain-attribute-ahead = stands .0
+
+    pub plain-attribute-inside : e ≤ length s
+    plain-attribute-inside = stands .1
+
+    pub plain-attribute-says : part s a e ≡ attributeOf s first name
+    plain-attribute-says = stands .2
+
+  module _ (bytes : List ℕ) (r : Bool) (ep : p ≡ attributePlace s first name) where
+    pub absent-is : p ≡ Nothing → r ≡ equal (replaced 0 []) bytes → r ≡ equal (attributeOf s first name) bytes
+    unfolding replaced
+    absent-is z h = h ∙ rw (sym ep ∙ z)
+
+    pub value-is : (a e : ℕ) → p ≡ At a e → r ≡ equal (replaced 0 (part s a e)) bytes → r ≡ equal (attributeOf s first name) bytes
+    value-is a e z h = h ∙ rw (sym ep ∙ z)

@@ -1,0 +1,51 @@
+-- How a value is shown (document 01, "Reading the document"): one without references or dropped parts as that part of the document, any other as the
+-- front of the scratch area. An absent value is an empty part of the document.
+-- Assumes nothing.
+use Prim.Native.Nat.{ℕ, _≤_}
+use Prim.Native.Char.{code}
+use mathlib.Core.Path.{_≡_}
+use mathlib.Core.Bool.{Bool}
+use mathlib.Core.List.{List, _++_}
+use lib.Dec.{eqb}
+use lib.ListN.{length, take, drop}
+use Rattle.text_scan.specs.Choice.{pick, _and_, not}
+use Rattle.text_scan.specs.Lists.{every}
+use Rattle.xml_references.specs.Decoded.{part}
+use Rattle.xml_values.specs.declared.Place.{Place}
+use Rattle.xml_values.specs.declared.Place.the-variants.{At, Nothing}
+use Rattle.xml_values.specs.declared.View.{View}
+use Rattle.xml_values.specs.declared.View.the-variants.{Document, Scratch}
+
+-- a byte that begins neither a reference nor a comment or an instruction
+abbrev pub isShown : ℕ → Bool
+isShown b = not (eqb b (code "&")) and not (eqb b (code "<"))
+
+-- how the value with this raw place, which says these bytes, is shown
+unfoldable pub viewOf : List ℕ → Place → List ℕ → View
+viewOf s (At a e) bytes = pick (every isShown (part s a e)) (Document a e) (Scratch (length bytes))
+viewOf s Nothing bytes = Document 0 0
+
+-- where a value stands that says the bytes there; an absent one is an empty part. Nothing where it has to be decoded
+unfoldable pub plainOf : List ℕ → Place → Place
+plainOf s (At a e) = pick (every isShown (part s a e)) (At a e) Nothing
+plainOf s Nothing = At 0 0
+
+-- the scratch area then: only the bytes that are shown there change
+unfoldable pub scratchAfter : View → List ℕ → List ℕ → List ℕ
+scratchAfter (Document a e) bytes scratch = scratch
+scratchAfter (Scratch n) bytes scratch = bytes ++ drop n scratch
+
+-- the bytes that are shown
+abbrev pub seen : List ℕ → List ℕ → View → List ℕ
+seen s scratch (Document a e) = part s a e
+seen s scratch (Scratch n) = take n scratch
+
+-- the numbers of a view are in range of what is meant
+abbrev pub InRange : List ℕ → List ℕ → View → Type 0
+InRange s scratch (Document a e) = (a ≤ e) × (e ≤ length s)
+InRange s scratch (Scratch n) = n ≤ length scratch
+
+-- what a reader of a value with this raw place, which says these bytes, answers, and leaves of the scratch area
+pub record Shows (s : List ℕ) (place : Place) (bytes scratch : List ℕ) (view : View) (after : List ℕ) : Type 0 where
+  pub answers : view ≡ viewOf s place bytes
+  pub leaves : after ≡ scratchAfter (viewOf s place bytes) bytes scratch
