@@ -9,7 +9,7 @@ use native.Mathlib.Omega.{arith}
 use borrow.Author.Tests.{le-leb, le-ltb}
 use Rattle.text_scan.specs.Choice.{not}
 use Rattle.text_scan.specs.Bytes.{text}
-use Rattle.text_facts.specs.Telephones.{isTelephone}
+use Rattle.text_telephones.specs.Telephones.{isTelephone}
 use Rattle.judge_paths.specs.declared.Role.the-variants.{Agent, ContactParty, Telecom}
 use Rattle.judge_draft.specs.declared.Test.the-variants.{Any, Telephone, Mail}
 use Rattle.judge_draft.specs.Drafts.{Draft, is, attribute, isEmpty}

@@ -8,7 +8,7 @@ use lib.ListN.{length}
 use Rattle.text_scan.specs.Choice.{_or_, _and_, not}
 use Rattle.text_scan.specs.Bytes.{text}
 use Rattle.text_facts.specs.Strings.{equal}
-use Rattle.text_facts.specs.Telephones.{isTelephone}
+use Rattle.text_telephones.specs.Telephones.{isTelephone}
 use Rattle.judge_paths.specs.declared.Role.{Role}
 use Rattle.judge_paths.specs.declared.Role.the-variants.{Registrant, Establishment, Agent, ContactParty, ContactPerson, PersonName, Addr, StreetAddressLine, City, State, PostalCode, Country, Telecom}
 use Rattle.judge_draft.specs.declared.Test.the-variants.{Any, Telephone, Mail, Empty}

@@ -4,9 +4,9 @@ ghost use mathlib.Core.Path.{_≡_};
 ghost use Prim.Native.Nat.{_+_, _*_, _^_, _<_};
 ghost use lib.ListN.{getD};
 ghost use Rattle.text_facts.specs.Strings.{equal, beginsWith, withoutSpace, isGuid, isLabelerCode};
-ghost use Rattle.text_facts.specs.Numbers.{versionOf};
-ghost use Rattle.text_facts.specs.Days.{isDay};
-ghost use Rattle.text_facts.specs.Telephones.{isTelephone};
+ghost use Rattle.text_numbers.specs.Numbers.{versionOf};
+ghost use Rattle.text_numbers.specs.Days.{isDay};
+ghost use Rattle.text_telephones.specs.Telephones.{isTelephone};
 ghost use Rattle.judge_draft.specs.Drafts.{draft, first, attribute, said, isEmpty};
 use judge_paths::DocumentType;
 use xml_values::Place;
@@ -139,9 +139,9 @@ pub fn attribute_is_day(
     let first = first_byte(document, elements, roles, kind, n);
     let Place::At(a, e) = xml_values::plain_attribute(document, first, name) else {
         let mut room = [0u8; 4096];
-        return text_facts::is_day(xml_values::attribute(document, first, name, &mut room));
+        return text_numbers::is_day(xml_values::attribute(document, first, name, &mut room));
     };
-    text_facts::is_day(&document[a..e])
+    text_numbers::is_day(&document[a..e])
 }
 
 pub fn attribute_version(
@@ -157,9 +157,9 @@ pub fn attribute_version(
     let first = first_byte(document, elements, roles, kind, n);
     let Place::At(a, e) = xml_values::plain_attribute(document, first, name) else {
         let mut room = [0u8; 4096];
-        return text_facts::version(xml_values::attribute(document, first, name, &mut room));
+        return text_numbers::version(xml_values::attribute(document, first, name, &mut room));
     };
-    text_facts::version(&document[a..e])
+    text_numbers::version(&document[a..e])
 }
 
 pub fn attribute_is_labeler_code(
@@ -193,9 +193,14 @@ pub fn attribute_is_telephone(
     let first = first_byte(document, elements, roles, kind, n);
     let Place::At(a, e) = xml_values::plain_attribute(document, first, name) else {
         let mut room = [0u8; 4096];
-        return text_facts::is_telephone(xml_values::attribute(document, first, name, &mut room));
+        return text_telephones::is_telephone(xml_values::attribute(
+            document,
+            first,
+            name,
+            &mut room,
+        ));
     };
-    text_facts::is_telephone(&document[a..e])
+    text_telephones::is_telephone(&document[a..e])
 }
 
 pub fn text_is(

@@ -9,8 +9,8 @@ use Rattle.text_scan.specs.Bytes.{text}
 use Rattle.text_scan.specs.declared.Found.{Found}
 use Rattle.text_scan.specs.declared.Found.the-variants.{At, Nothing}
 use Rattle.text_facts.specs.Strings.{equal, isGuid}
-use Rattle.text_facts.specs.Numbers.{versionOf}
-use Rattle.text_facts.specs.Days.{isDay}
+use Rattle.text_numbers.specs.Numbers.{versionOf}
+use Rattle.text_numbers.specs.Days.{isDay}
 use Rattle.judge_paths.specs.declared.DocumentType.the-variants.{Neither, Registration, Request}
 use Rattle.judge_paths.specs.declared.Role.the-variants.{Id, Code, EffectiveTime, SetId, VersionNumber}
 use Rattle.judge_draft.specs.Drafts.{Draft, attribute}

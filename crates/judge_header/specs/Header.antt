@@ -8,8 +8,8 @@ use Rattle.text_scan.specs.Choice.{pick, _or_, _and_, not}
 use Rattle.text_scan.specs.Bytes.{text}
 use Rattle.text_scan.specs.declared.Found.{Found}
 use Rattle.text_facts.specs.Strings.{isGuid}
-use Rattle.text_facts.specs.Numbers.{versionOf}
-use Rattle.text_facts.specs.Days.{isDay}
+use Rattle.text_numbers.specs.Numbers.{versionOf}
+use Rattle.text_numbers.specs.Days.{isDay}
 use Rattle.judge_paths.specs.declared.DocumentType.{DocumentType}
 use Rattle.judge_paths.specs.declared.DocumentType.the-variants.{Neither, Registration, Request}
 use Rattle.judge_paths.specs.declared.Role.{Role}

@@ -7,8 +7,8 @@ use Rattle.text_scan.specs.Bytes.{text}
 use Rattle.text_scan.specs.Lists.{every, pairs, begins, runEnd}
 use Rattle.text_scan.specs.Walk.{walk, from}
 use Rattle.text_facts.specs.Strings.{equal, withoutSpace, isGuid}
-use Rattle.text_facts.specs.Numbers.{versionOf}
-use Rattle.text_facts.specs.Days.{isDay}
+use Rattle.text_numbers.specs.Numbers.{versionOf}
+use Rattle.text_numbers.specs.Days.{isDay}
 use Rattle.xml_markup.specs.Names.{nameEnd}
 use Rattle.xml_markup.specs.Values.{opened, equalsAt}
 use Rattle.xml_tags.specs.Names.{elementEnd, nameIs}

@@ -35,19 +35,19 @@ fn number(yes: bool) -> u64 {
 
 fn judge(fact: &[u8], a: &[u8], b: &[u8]) -> u64 {
     if text_facts::same(fact, b"day") {
-        return number(text_facts::is_day(a));
+        return number(text_numbers::is_day(a));
     }
     if text_facts::same(fact, b"labeler") {
         return number(text_facts::is_labeler_code(a));
     }
     if text_facts::same(fact, b"telephone") {
-        return number(text_facts::is_telephone(a));
+        return number(text_telephones::is_telephone(a));
     }
     if text_facts::same(fact, b"guid") {
         return number(text_facts::is_guid(a));
     }
     if text_facts::same(fact, b"version") {
-        return text_facts::version(a) as u64;
+        return text_numbers::version(a) as u64;
     }
     if text_facts::same(fact, b"without space") {
         return number(text_facts::without_space(a));

@@ -36,7 +36,7 @@ fn unit_of(b: u8, any: bool) -> usize
     ensures { λ r. ⌜ r ≡ unitOf (shown any (b ∷ [])) ⌝ }
 {
     if any {
-        return text_facts::lower_case(b) as usize + 1;
+        return text_scan::lower_case(b) as usize + 1;
     }
     b as usize + 1
 }

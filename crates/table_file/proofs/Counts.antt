@@ -13,7 +13,7 @@ use Rattle.text_scan.specs.Bytes.{isDigit}
 use Rattle.text_scan.specs.Lists.{every}
 use Rattle.text_scan.proofs.Tests.{and-false, or-true, and-left}
 use Rattle.text_scan.proofs.Within.{drop-here}
-use Rattle.text_facts.specs.Numbers.{valueAfter}
+use Rattle.text_numbers.specs.Numbers.{valueAfter}
 use Rattle.table_file.specs.declared.Counted.{Counted}
 use Rattle.table_file.specs.Accepted.{isCount, countOf}
 

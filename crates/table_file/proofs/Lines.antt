@@ -9,7 +9,7 @@ use borrow.Author.Tests.{eq-eqb, ne-eqb, le-leb, lt-leb}
 use lib.Dec.{eqb, ltb}
 use lib.ListN.{length, take, drop}
 use Rattle.text_scan.specs.Choice.{pick, _and_}
-use Rattle.text_facts.specs.Numbers.{versionOf}
+use Rattle.text_numbers.specs.Numbers.{versionOf}
 use Rattle.table_lines.specs.Lines.{lineEnd, lineAt, field, fieldsOf, areFields, fieldCount}
 use Rattle.table_file.specs.declared.Kind.{Kind}
 use Rattle.table_file.specs.Accepted.{isOf, isRow}

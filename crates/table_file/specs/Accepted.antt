@@ -9,7 +9,7 @@ use lib.ListN.{length, getD}
 use Rattle.text_scan.specs.Choice.{pick, _or_, _and_, not}
 use Rattle.text_scan.specs.Bytes.{isDigit}
 use Rattle.text_scan.specs.Lists.{every}
-use Rattle.text_facts.specs.Numbers.{valueOf, versionOf}
+use Rattle.text_numbers.specs.Numbers.{valueOf, versionOf}
 use Rattle.table_lines.specs.Lines.{Row, field, fieldsOf, areFields, lineEnd, hasFeed, lineAt, rowsAt}
 use Rattle.table_file.specs.declared.Kind.{Kind}
 use Rattle.table_file.specs.declared.Counted.{Counted}

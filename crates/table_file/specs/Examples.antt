@@ -6,7 +6,7 @@ use mathlib.Core.List.{List, [], _∷_, _++_, map}
 use lib.ListN.{replicate}
 use Rattle.text_scan.specs.Bytes.{text}
 use Rattle.text_scan.specs.Lists.{every, runEnd}
-use Rattle.text_facts.specs.Numbers.{valueAfter, versionOf}
+use Rattle.text_numbers.specs.Numbers.{valueAfter, versionOf}
 use Rattle.table_lines.specs.Lines.{fieldsOf, rowsAt, areFields}
 use Rattle.table_file.specs.declared.Accepted.{Accepted}
 use Rattle.table_file.specs.Accepted.{isOf, isRow, isCount, countOf, rowsEnd, sectionAt, accepted, tablesOf}

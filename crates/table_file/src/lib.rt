@@ -60,7 +60,7 @@ fn is_row(kind: Kind, line: &[u8], n: usize) -> bool
             if n != 5 {
                 return false;
             }
-            0 < text_facts::version(table_lines::field(line, 2))
+            0 < text_numbers::version(table_lines::field(line, 2))
         }
     }
 }

@@ -12,7 +12,7 @@ use Rattle.text_scan.specs.Choice.{_and_, _or_, not}
 use Rattle.text_scan.specs.Bytes.{isDigit}
 use Rattle.text_scan.specs.Lists.{every}
 use Rattle.text_scan.proofs.Tests.{never, and-left, and-right, or-true, within}
-use Rattle.text_facts.specs.Numbers.{valueAfter, valueOf}
+use Rattle.text_numbers.specs.Numbers.{valueAfter, valueOf}
 use Rattle.table_file.specs.Accepted.{isCount}
 use Rattle.table_join.specs.Written.{digit, digits, decimal}
 use Rattle.table_join.proofs.Lists.{every-joined}

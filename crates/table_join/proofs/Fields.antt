@@ -11,7 +11,7 @@ use lib.ListN.{length}
 use Rattle.text_scan.specs.Choice.{pick, _and_, not}
 use Rattle.text_scan.specs.Lists.{every}
 use Rattle.text_scan.proofs.Tests.{and-left, and-right}
-use Rattle.text_facts.specs.Numbers.{versionOf}
+use Rattle.text_numbers.specs.Numbers.{versionOf}
 use Rattle.table_lines.specs.Lines.{Row, field, other, isTab, inFirst, fieldsOf, areFields}
 use Rattle.table_lines.proofs.Counting.{some-field}
 use Rattle.table_file.specs.declared.Kind.{Kind}

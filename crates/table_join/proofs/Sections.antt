@@ -12,7 +12,7 @@ use Rattle.text_scan.specs.Choice.{pick}
 use Rattle.text_scan.specs.Bytes.{isDigit}
 use Rattle.text_scan.specs.Lists.{every}
 use Rattle.text_scan.proofs.Tests.{and-left, and-right}
-use Rattle.text_facts.specs.Numbers.{valueOf}
+use Rattle.text_numbers.specs.Numbers.{valueOf}
 use Rattle.table_lines.specs.Lines.{Row, other, lineEnd, hasFeed, lineAt, rowsAt}
 use Rattle.table_file.specs.declared.Kind.{Kind}
 use Rattle.table_file.specs.declared.Counted.{Counted}

@@ -4,7 +4,7 @@ use mathlib.Core.List.{[], _∷_, map}
 use mathlib.Core.Path.{_≡_, refl}
 use Rattle.text_scan.specs.Bytes.{text}
 use Rattle.text_scan.specs.Lists.{every, runEnd}
-use Rattle.text_facts.specs.Numbers.{valueAfter, versionOf}
+use Rattle.text_numbers.specs.Numbers.{valueAfter, versionOf}
 use Rattle.table_lines.specs.Lines.{fieldsOf, rowsAt, areFields}
 use Rattle.table_file.specs.Accepted.{isOf, isRow, isCount, countOf, rowsEnd, sectionAt, accepted, tablesOf}
 use Rattle.table_join.specs.Written.{digits, decimal, lineOf, writtenRows, writtenSection, written}

@@ -7,7 +7,7 @@ use mathlib.Core.Path.{_≡_, refl}
 use Rattle.text_scan.specs.Bytes.{text}
 use Rattle.text_scan.specs.Lists.{every, pairs, runEnd}
 use Rattle.text_facts.specs.Strings.{equal, equalInAnyCase}
-use Rattle.text_facts.specs.Numbers.{valueAfter, versionOf}
+use Rattle.text_numbers.specs.Numbers.{valueAfter, versionOf}
 use Rattle.table_lines.specs.Lines.{Row, fieldsOf, rowsAt}
 use Rattle.table_rows.specs.Rows.{someRow, isCode, isName, isDocument, isVersion, isKeyElsewhere, isOtherKey}
 

@@ -6,7 +6,7 @@ use mathlib.Core.List.{List, [], _∷_}
 use lib.Dec.{leb}
 use Rattle.text_scan.specs.Choice.{_or_, _and_, not}
 use Rattle.text_facts.specs.Strings.{equal, equalInAnyCase}
-use Rattle.text_facts.specs.Numbers.{versionOf}
+use Rattle.text_numbers.specs.Numbers.{versionOf}
 use Rattle.table_lines.specs.Lines.{Row, field}
 use Rattle.table_rows.specs.declared.Question.{Question}
 

@@ -2,7 +2,7 @@
 // row and the count of its rows.
 ghost use mathlib.Core.Path.{_≡_};
 ghost use Rattle.text_facts.specs.Strings.{equal, equalInAnyCase};
-ghost use Rattle.text_facts.specs.Numbers.{versionOf};
+ghost use Rattle.text_numbers.specs.Numbers.{versionOf};
 ghost use Rattle.table_lines.specs.Lines.{field, fieldsOf, rowsAt};
 ghost use Rattle.table_rows.specs.Rows.{someRow, isAsked, isCode, isName, isDocument, isVersion, isKeyElsewhere, isOtherKey};
 
@@ -34,7 +34,7 @@ fn field_is_in_any_case(line: &[u8], k: usize, value: &[u8]) -> bool
 fn field_version(line: &[u8], k: usize) -> u32
     ensures { λ r. ⌜ r ≡ versionOf (field (fieldsOf (now (line .entry))) k) ⌝ }
 {
-    text_facts::version(table_lines::field(line, k))
+    text_numbers::version(table_lines::field(line, k))
 }
 
 fn is_code(line: &[u8], code: &[u8], system: &[u8], display: &[u8]) -> bool
@@ -62,7 +62,7 @@ fn is_version(line: &[u8], set: &[u8], version: &[u8]) -> bool
     ensures { λ r. ⌜ r ≡ isVersion (now (set .entry)) (now (version .entry)) (fieldsOf (now (line .entry))) ⌝ }
 {
     if field_is(line, 1, set) {
-        return text_facts::version(version) <= field_version(line, 2);
+        return text_numbers::version(version) <= field_version(line, 2);
     }
     false
 }

@@ -1,4 +1,1 @@
 pub mod StringLaws
-pub mod NumberLaws
-pub mod DayLaws
-pub mod TelephoneLaws

@@ -1,6 +1,2 @@
 pub mod Strings
-pub mod Numbers
-pub mod Days
-pub mod Telephones
-pub mod Edges
 pub mod Unique

@@ -4,12 +4,8 @@ use Prim.Native.Nat.{ℕ}
 use mathlib.Core.Bool.{Bool}
 use mathlib.Core.List.{List}
 use mathlib.Core.Path.{_≡_}
-use Rattle.text_scan.specs.Bytes.{lower}
 use Rattle.text_scan.specs.Unique.{only}
 use Rattle.text_facts.specs.Strings.{equal, equalInAnyCase, beginsWith, withoutSpace, isGuid, isLabelerCode}
-use Rattle.text_facts.specs.Numbers.{versionOf}
-use Rattle.text_facts.specs.Days.{isDay}
-use Rattle.text_facts.specs.Telephones.{isTelephone}
 
 module _ (s t : List ℕ) (r r′ : Bool) where
   pub one-same : r ≡ equal s t → r′ ≡ equal s t → r ≡ r′
@@ -30,15 +26,3 @@ module _ (s : List ℕ) (r r′ : Bool) where
 
   pub one-is-labeler-code : r ≡ isLabelerCode s → r′ ≡ isLabelerCode s → r ≡ r′
   one-is-labeler-code = only
-
-  pub one-is-day : r ≡ isDay s → r′ ≡ isDay s → r ≡ r′
-  one-is-day = only
-
-  pub one-is-telephone : r ≡ isTelephone s → r′ ≡ isTelephone s → r ≡ r′
-  one-is-telephone = only
-
-pub one-version : (s : List ℕ) (r r′ : ℕ) → r ≡ versionOf s → r′ ≡ versionOf s → r ≡ r′
-one-version s r r′ = only
-
-pub one-lower-case : (b r r′ : ℕ) → r ≡ lower b → r′ ≡ lower b → r ≡ r′
-one-lower-case b r r′ = only

@@ -41,6 +41,10 @@ pub or-right : (a b : Bool) → a or b ≡ false → b ≡ false
 or-right true b e = never e
 or-right false b e = e
 
+pub or-join : (a b c : Bool) → (a or b) or c ≡ a or b or c
+or-join true b c = refl
+or-join false b c = refl
+
 pub and-true : (a : Bool) → a and true ≡ a
 and-true true = refl
 and-true false = refl
@@ -56,6 +60,10 @@ and-left false b e = never (sym e)
 pub and-right : (a b : Bool) → a and b ≡ true → b ≡ true
 and-right true b e = e
 and-right false b e = never (sym e)
+
+pub and-join : (a b c : Bool) → (a and b) and c ≡ a and b and c
+and-join true b c = refl
+and-join false b c = refl
 
 -- below, within and above a range
 pub under : (lo hi x : ℕ) → x < lo → between lo hi x ≡ false

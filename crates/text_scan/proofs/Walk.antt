@@ -24,6 +24,12 @@ module _ {R : Type 0} (f : ℕ → Next R) (e : R) where
       let a : n - i ≡ suc (n - (i + 1)) = omega arith in
       rw (a, q, walk) (passed w (i + 1) (n - (i + 1)) (n - (i + 1 + w)) (omega arith))
 
+  -- by one position
+  pub further : (n i : ℕ) → i < n → f i ≡ skip 0 → from f e n i ≡ from f e n (i + 1)
+  further n i h q =
+      let a : i + 1 + 0 ≡ i + 1 = omega arith in
+      rw a at (goes n i 0 (omega arith) q)
+
   pub stops : (n i : ℕ) (r : R) → i < n → f i ≡ done r → from f e n i ≡ r
   unfolding walk from
   stops n i r h q =

@@ -1,9 +1,9 @@
-// What every scanner shares: the byte at a position, digits, and a text at a position.
+// What every scanner shares: the byte at a position, digits, letters made small, and a text at a position.
 ghost use mathlib.Core.Path.{_≡_};
 ghost use Prim.Native.Nat.{_<_};
 ghost use lib.ListN.{getD};
-ghost use Rattle.text_scan.specs.Bytes.{isDigit};
-ghost use Rattle.text_scan.specs.Lists.{stands, runFrom};
+ghost use Rattle.text_scan.specs.Bytes.{isDigit, lower};
+ghost use Rattle.text_scan.specs.Lists.{every, stands, runFrom};
 
 // Where something ends that was looked for: the place after it, or nothing.
 pub enum Found {
@@ -28,6 +28,19 @@ pub fn is_digit(b: u8) -> bool
         return false;
     }
     b <= 57
+}
+
+// A letter A to Z made small, any other byte as it is.
+pub fn lower_case(b: u8) -> u8
+    ensures { λ r. ⌜ r ≡ lower b ⌝ }
+{
+    if b < 65 {
+        return b;
+    }
+    if b <= 90 {
+        return b + 32;
+    }
+    b
 }
 
 // Whether the text t stands at position `at`.
@@ -62,4 +75,19 @@ pub fn digits_end(s: &[u8], at: usize) -> usize
         return i;
     }
     i
+}
+
+// Whether each byte is a digit.
+pub fn all_digits(s: &[u8]) -> bool
+    ensures { λ r. ⌜ r ≡ every isDigit (now (s .entry)) ⌝ }
+{
+    let mut i = 0;
+    while i < s.len() {
+        if is_digit(s[i]) {
+            i += 1;
+            continue;
+        }
+        return false;
+    }
+    true
 }

@@ -1,0 +1,2 @@
+pub mod Telephones
+pub mod Unique
