@@ -13,7 +13,7 @@ use Rattle.table_rows.specs.Rows.{someRow, isCode, isName, isDocument, isVersio
 use Rattle.table_index.specs.declared.Keys.{Keys}
 use Rattle.table_index.specs.SetKeys.{keysOf}
 use Rattle.xml_values.specs.Attributes.{attributeOf}
-use Rattle.xml_values.specs.Texts.{textOf}
+use Rattle.xml_texts.specs.Texts.{textOf}
 use Rattle.judge_paths.specs.declared.DocumentType.{DocumentType}
 use Rattle.judge_paths.specs.declared.DocumentType.the-variants.{Neither, Registration, Request}
 use Rattle.judge_draft.specs.declared.Demand.{Demand}

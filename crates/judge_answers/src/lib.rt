@@ -116,7 +116,7 @@ fn has_name_decoded(
     let at0 = first_byte(document, elements, roles, kind, i);
     let at1 = first_byte(document, elements, roles, kind, k);
     let value0 = xml_values::attribute(document, at0, b"extension", &mut room0);
-    let value1 = xml_values::text(document, at1, &mut room1);
+    let value1 = xml_texts::text(document, at1, &mut room1);
     table_index::some_row(
         Question::Name,
         tables,
@@ -147,7 +147,7 @@ fn has_name(
     let at0 = first_byte(document, elements, roles, kind, i);
     let at1 = first_byte(document, elements, roles, kind, k);
     if let Place::At(a, e) = xml_values::plain_attribute(document, at0, b"extension") {
-        if let Place::At(b, f) = xml_values::plain_text(document, at1) {
+        if let Place::At(b, f) = xml_texts::plain_text(document, at1) {
             return table_index::some_row(
                 Question::Name,
                 tables,

@@ -16,8 +16,8 @@ use Rattle.table_file.specs.Accepted.{Tables, accepted, tablesOf}
 use Rattle.table_file.specs.declared.Accepted.{Accepted}
 use Rattle.xml_elements.specs.declared.Answer.{Answer as Reading}
 use Rattle.xml_elements.specs.declared.Answer.the-variants.{Elements, Refused as NotRead}
-use Rattle.xml_elements.specs.Elements.{Read, refused, elements, elementsOf, answerOf, tableAfter}
-use Rattle.xml_elements.specs.Elements.{Leaves as Reads}
+use Rattle.xml_steps.specs.Reading.{Read, refused, elements}
+use Rattle.xml_elements.specs.Elements.{elementsOf, answerOf, tableAfter, ElementsLeft as Reads}
 use Rattle.xml_nesting.proofs.Read.{Rows, rows-read}
 use Rattle.judge_answers.specs.declared.Places.{Places}
 use Rattle.judge_answers.specs.Answers.{tablesAt}

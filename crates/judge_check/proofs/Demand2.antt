@@ -17,7 +17,8 @@ use Rattle.list_findings.specs.Findings.{width, filled}
 use Rattle.list_findings.specs.Lists.{has}
 use Rattle.table_file.specs.declared.Accepted.{Accepted as File}
 use Rattle.table_file.specs.Accepted.{Tables, accepted, tablesOf}
-use Rattle.xml_elements.specs.Elements.{Read, refused, elements, elementsOf}
+use Rattle.xml_steps.specs.Reading.{Read, refused, elements}
+use Rattle.xml_elements.specs.Elements.{elementsOf}
 use Rattle.xml_nesting.proofs.Read.{Rows, rows-read}
 use Rattle.judge_draft.specs.Drafts.{Draft, draft, count}
 use Rattle.judge_header.specs.Header.{headerOf}

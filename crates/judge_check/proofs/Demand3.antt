@@ -18,7 +18,8 @@ use Rattle.list_findings.specs.Merge.{Outcome as Merging, firstBad, merged, fir
 use Rattle.list_findings.proofs.Records.{records-flat, length-flat}
 use Rattle.table_file.specs.Accepted.{Tables, tablesOf}
 use Rattle.table_join.specs.Joins.{Joins}
-use Rattle.xml_elements.specs.Elements.{Read, elements, elementsOf}
+use Rattle.xml_steps.specs.Reading.{Read, elements}
+use Rattle.xml_elements.specs.Elements.{elementsOf}
 use Rattle.judge_check.specs.declared.Answer.the-variants.{Findings, Refused}
 use Rattle.judge_check.specs.Drafted.{draftOf}
 use Rattle.judge_check.specs.Check.{checkOf}

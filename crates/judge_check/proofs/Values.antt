@@ -13,16 +13,16 @@ use Rattle.text_scan.specs.declared.Found.{Found}
 use Rattle.text_scan.specs.declared.Found.the-variants.{At, Nothing}
 use Rattle.xml_reader.specs.Limits.{valueLimit}
 use Rattle.xml_references.proofs.Replaced.{decoded-most}
-use Rattle.xml_elements.specs.Elements.{firstOf}
-use Rattle.xml_tags.specs.declared.Attribute.{Attribute}
-use Rattle.xml_tags.specs.declared.Attribute.the-variants.{At as Attribute-at, Nothing as NoAttribute}
-use Rattle.xml_tags.specs.Attributes.{attributeAt}
+use Rattle.xml_steps.specs.Reading.{firstOf}
+use Rattle.xml_attributes.specs.declared.Attribute.{Attribute}
+use Rattle.xml_attributes.specs.declared.Attribute.the-variants.{At as Attribute-at, Nothing as NoAttribute}
+use Rattle.xml_attributes.specs.Attributes.{attributeAt}
 use Rattle.xml_values.specs.declared.Place.{Place}
 use Rattle.xml_values.specs.declared.Place.the-variants.{At as Raw, Nothing as NoRaw}
 use Rattle.xml_values.specs.Attributes.{attributesOf, valuePlace, valueAt}
-use Rattle.xml_values.specs.Texts.{textPlace, textOf}
+use Rattle.xml_texts.specs.Texts.{textPlace, textOf}
 use Rattle.xml_values.proofs.Views.{says-most}
-use Rattle.xml_values.proofs.Texts.{text-says}
+use Rattle.xml_texts.proofs.Texts.{text-says}
 use Rattle.judge_check.specs.Long.{over, longAttribute, longAt, longFrom, longValue}
 
 short-enough : (p : Place) (bytes : List ℕ) → length bytes ≤ valueLimit → over p bytes ≡ Nothing

@@ -7,7 +7,8 @@ use lib.ListN.{length}
 use Rattle.list_findings.specs.declared.Finding.{Finding}
 use Rattle.list_findings.specs.Findings.{width, filled}
 use Rattle.table_file.specs.Accepted.{tablesOf}
-use Rattle.xml_elements.specs.Elements.{elements, elementsOf}
+use Rattle.xml_steps.specs.Reading.{elements}
+use Rattle.xml_elements.specs.Elements.{elementsOf}
 use Rattle.judge_marks.specs.Listed.{findingsOf}
 use Rattle.judge_check.specs.Drafted.{draftOf}
 

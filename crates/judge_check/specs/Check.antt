@@ -14,7 +14,8 @@ use Rattle.list_findings.specs.declared.Finding.{Finding}
 use Rattle.list_findings.specs.Findings.{width, filled}
 use Rattle.table_file.specs.declared.Accepted.{Accepted}
 use Rattle.table_file.specs.Accepted.{Tables, accepted, tablesOf}
-use Rattle.xml_elements.specs.Elements.{Read, refused, elements, elementsOf}
+use Rattle.xml_steps.specs.Reading.{Read, refused, elements}
+use Rattle.xml_elements.specs.Elements.{elementsOf}
 use Rattle.judge_marks.specs.Listed.{findingsOf}
 use Rattle.judge_check.specs.declared.Answer.{Answer}
 use Rattle.judge_check.specs.declared.Answer.the-variants.{Findings, Refused}

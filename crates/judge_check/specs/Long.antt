@@ -10,12 +10,12 @@ use Rattle.text_scan.specs.declared.Found.{Found}
 use Rattle.text_scan.specs.declared.Found.the-variants.{At, Nothing}
 use Rattle.xml_reader.specs.Limits.{valueLimit}
 use Rattle.list_findings.specs.Merge.{orElse}
-use Rattle.xml_elements.specs.Elements.{firstOf}
-use Rattle.xml_tags.specs.Attributes.{attributeAt}
+use Rattle.xml_steps.specs.Reading.{firstOf}
+use Rattle.xml_attributes.specs.Attributes.{attributeAt}
 use Rattle.xml_values.specs.declared.Place.{Place}
 use Rattle.xml_values.specs.declared.Place.the-variants.{At as Raw, Nothing as NoRaw}
 use Rattle.xml_values.specs.Attributes.{attributesOf, valuePlace, valueAt}
-use Rattle.xml_values.specs.Texts.{textPlace, textOf}
+use Rattle.xml_texts.specs.Texts.{textPlace, textOf}
 
 -- the first raw byte of a value that says too much
 abbrev pub over : Place → List ℕ → Found

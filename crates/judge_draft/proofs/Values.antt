@@ -11,7 +11,7 @@ use lib.ListN.{length, getD, List·getD-eq-default}
 use Rattle.text_scan.specs.Lists.{pairs}
 use Rattle.text_facts.specs.Strings.{equal, beginsWith}
 use Rattle.xml_values.specs.Attributes.{attributeOf}
-use Rattle.xml_values.specs.Texts.{textOf}
+use Rattle.xml_texts.specs.Texts.{textOf}
 use Rattle.judge_paths.specs.declared.DocumentType.{DocumentType}
 use Rattle.judge_paths.specs.declared.Role.{Role}
 use Rattle.judge_paths.specs.Roles.{roleNumber}

@@ -6,9 +6,9 @@ use mathlib.Core.Bool.{Bool}
 use mathlib.Core.List.{List}
 use lib.Dec.{eqb, ltb}
 use lib.ListN.{length, getD}
-use Rattle.xml_elements.specs.Elements.{parentOf, firstOf, afterOf}
+use Rattle.xml_steps.specs.Reading.{parentOf, firstOf, afterOf}
 use Rattle.xml_values.specs.Attributes.{attributeOf}
-use Rattle.xml_values.specs.Texts.{textOf}
+use Rattle.xml_texts.specs.Texts.{textOf}
 use Rattle.judge_paths.specs.declared.DocumentType.{DocumentType}
 use Rattle.judge_paths.specs.declared.Role.{Role}
 use Rattle.judge_paths.specs.Roles.{roleNumber}

@@ -4,7 +4,7 @@ use Prim.Native.Nat.{ℕ}
 use mathlib.Core.Path.{_≡_, refl}
 use mathlib.Core.List.{List, [], _∷_, _++_}
 use Rattle.text_scan.specs.declared.Found.the-variants.{At, Nothing}
-use Rattle.xml_elements.specs.Elements.{row}
+use Rattle.xml_steps.specs.Reading.{row}
 use Rattle.judge_paths.specs.declared.DocumentType.the-variants.{Request}
 use Rattle.judge_paths.specs.declared.Role.the-variants.{Unknown, Unlisted, Root, Id, Author, Entity1, Labeler}
 use Rattle.judge_paths.specs.Roles.{roleNumber}

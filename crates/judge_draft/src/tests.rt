@@ -51,7 +51,7 @@ pub fn attribute_is(
     ensures { λ r. ⌜ r ≡ equal (attribute (draft (now (document .entry)) (now (elements .entry)) (now (roles .entry)) kind) n (now (name .entry))) (now (wanted .entry)) ⌝ }
 {
     let first = first_byte(document, elements, roles, kind, n);
-    xml_values::attribute_is(document, first, name, wanted)
+    xml_compare::attribute_is(document, first, name, wanted)
 }
 
 pub fn attribute_begins(
@@ -87,7 +87,7 @@ pub fn attribute_is_empty(
     ensures { λ r. ⌜ r ≡ isEmpty (attribute (draft (now (document .entry)) (now (elements .entry)) (now (roles .entry)) kind) n (now (name .entry))) ⌝ }
 {
     let first = first_byte(document, elements, roles, kind, n);
-    xml_values::attribute_is(document, first, name, b"")
+    xml_compare::attribute_is(document, first, name, b"")
 }
 
 pub fn attribute_without_space(
@@ -214,9 +214,9 @@ pub fn text_is(
     ensures { λ r. ⌜ r ≡ equal (said (draft (now (document .entry)) (now (elements .entry)) (now (roles .entry)) kind) n) (now (wanted .entry)) ⌝ }
 {
     let first = first_byte(document, elements, roles, kind, n);
-    let Place::At(a, e) = xml_values::plain_text(document, first) else {
+    let Place::At(a, e) = xml_texts::plain_text(document, first) else {
         let mut room = [0u8; 4096];
-        return text_facts::same(xml_values::text(document, first, &mut room), wanted);
+        return text_facts::same(xml_texts::text(document, first, &mut room), wanted);
     };
     text_facts::same(&document[a..e], wanted)
 }
@@ -231,9 +231,9 @@ pub fn text_is_empty(
     ensures { λ r. ⌜ r ≡ isEmpty (said (draft (now (document .entry)) (now (elements .entry)) (now (roles .entry)) kind) n) ⌝ }
 {
     let first = first_byte(document, elements, roles, kind, n);
-    let Place::At(a, e) = xml_values::plain_text(document, first) else {
+    let Place::At(a, e) = xml_texts::plain_text(document, first) else {
         let mut room = [0u8; 4096];
-        return xml_values::text(document, first, &mut room).len() == 0;
+        return xml_texts::text(document, first, &mut room).len() == 0;
     };
     text_facts::same(&document[a..e], b"")
 }

@@ -12,8 +12,7 @@ use Rattle.text_scan.specs.Bytes.{text}
 use Rattle.text_scan.specs.Lists.{pairs}
 use Rattle.text_scan.proofs.Tests.{and-false}
 use Rattle.text_facts.specs.Strings.{equal, withoutSpace}
-use Rattle.xml_markup.specs.Names.{nameEnd}
-use Rattle.xml_pieces.specs.Pieces.{nameAt}
+use Rattle.xml_names.specs.Names.{nameEnd, nameAt}
 use Rattle.xml_values.specs.Attributes.{isBare, hasOther}
 use Rattle.xml_values.proofs.Attributes.{empty-name}
 use Rattle.xml_values.proofs.Unlisted.{bare-other}

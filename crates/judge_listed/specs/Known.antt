@@ -6,7 +6,7 @@ use mathlib.Core.List.{List, [], _∷_}
 use Rattle.text_scan.specs.Choice.{pick, _and_, not}
 use Rattle.text_scan.specs.Bytes.{text}
 use Rattle.text_facts.specs.Strings.{equal, withoutSpace}
-use Rattle.xml_pieces.specs.Pieces.{nameAt}
+use Rattle.xml_names.specs.Names.{nameAt}
 use Rattle.xml_values.specs.Attributes.{hasOther}
 use Rattle.judge_paths.specs.declared.Role.the-variants.{Unlisted, Root}
 use Rattle.judge_paths.specs.Attributes.{Lists, attributeTable}

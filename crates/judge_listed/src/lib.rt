@@ -29,7 +29,7 @@ fn is_document(
         return false;
     }
     let start = first + 1;
-    let end = xml_markup::name_end(document, start);
+    let end = xml_names::name_end(document, start);
     text_facts::same(&document[start..end], b"document")
 }
 

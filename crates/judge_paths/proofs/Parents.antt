@@ -7,7 +7,7 @@ use Prim.Native.Nat.{ℕ}
 use native.Mathlib.Omega.{arith}
 use Rattle.text_scan.specs.Choice.{pick, _or_, not}
 use Rattle.text_scan.proofs.Tests.{never, and-left}
-use Rattle.xml_elements.specs.Elements.{parentOf}
+use Rattle.xml_steps.specs.Reading.{parentOf}
 use Rattle.judge_paths.specs.declared.DocumentType.{DocumentType}
 use Rattle.judge_paths.specs.declared.Role.{Role}
 use Rattle.judge_paths.specs.declared.Role.the-variants.{Unknown, Unlisted, Author}

@@ -10,8 +10,8 @@ use lib.Dec.{eqb, ltb}
 use lib.ListN.{length, take, drop, getD}
 use Rattle.text_scan.specs.Choice.{pick, _and_}
 use Rattle.text_scan.proofs.Tests.{and-left, and-right}
-use Rattle.xml_markup.specs.Names.{nameEnd}
-use Rattle.xml_elements.specs.Elements.{parentOf, firstOf}
+use Rattle.xml_names.specs.Names.{nameEnd}
+use Rattle.xml_steps.specs.Reading.{parentOf, firstOf}
 use Rattle.judge_paths.specs.declared.DocumentType.{DocumentType}
 use Rattle.judge_paths.specs.declared.Role.{Role}
 use Rattle.judge_paths.specs.declared.Role.the-variants.{Unknown, Root}

@@ -9,8 +9,8 @@ use Rattle.text_scan.specs.Choice.{_or_, _and_, not}
 use Rattle.text_scan.specs.Bytes.{text}
 use Rattle.text_scan.specs.Lists.{pairs, runEnd}
 use Rattle.text_facts.specs.Strings.{equal}
-use Rattle.xml_markup.specs.Names.{nameEnd}
-use Rattle.xml_elements.specs.Elements.{row as elementRow}
+use Rattle.xml_names.specs.Names.{nameEnd}
+use Rattle.xml_steps.specs.Reading.{row as elementRow}
 use Rattle.judge_paths.specs.declared.DocumentType.{DocumentType}
 use Rattle.judge_paths.specs.declared.DocumentType.the-variants.{Neither, Registration, Request}
 use Rattle.judge_paths.specs.declared.Role.{Role}

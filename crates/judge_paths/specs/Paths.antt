@@ -10,8 +10,8 @@ use lib.ListN.{length}
 use Rattle.text_scan.specs.Choice.{pick, _or_, _and_, not}
 use Rattle.text_scan.specs.Bytes.{text}
 use Rattle.text_facts.specs.Strings.{equal}
-use Rattle.xml_pieces.specs.Pieces.{nameAt}
-use Rattle.xml_elements.specs.Elements.{parentOf, firstOf}
+use Rattle.xml_names.specs.Names.{nameAt}
+use Rattle.xml_steps.specs.Reading.{parentOf, firstOf}
 use Rattle.judge_paths.specs.declared.DocumentType.{DocumentType}
 use Rattle.judge_paths.specs.declared.DocumentType.the-variants.{Neither, Registration, Request}
 use Rattle.judge_paths.specs.declared.Role.{Role}

@@ -327,7 +327,7 @@ fn role_below(document: &[u8], elements: &[u32], n: usize, kind: DocumentType, p
     ensures { λ r. ⌜ r ≡ childRole kind parent (nameOf (now (document .entry)) (now (elements .entry)) n) ⌝ }
 {
     let start = row_number(elements, n, 2) + 1;
-    let end = xml_markup::name_end(document, start);
+    let end = xml_names::name_end(document, start);
     child_role(kind, parent, &document[start..end])
 }
 

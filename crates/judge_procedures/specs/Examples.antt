@@ -9,12 +9,12 @@ use Rattle.text_scan.specs.Walk.{walk, from}
 use Rattle.text_facts.specs.Strings.{equal, withoutSpace, isGuid}
 use Rattle.text_numbers.specs.Numbers.{versionOf}
 use Rattle.text_numbers.specs.Days.{isDay}
-use Rattle.xml_markup.specs.Names.{nameEnd}
-use Rattle.xml_markup.specs.Values.{opened, equalsAt}
-use Rattle.xml_tags.specs.Names.{elementEnd, nameIs}
-use Rattle.xml_tags.specs.Rows.{items, ending, row, rowFrom}
-use Rattle.xml_tags.specs.Attributes.{attributeTo}
-use Rattle.xml_tags.specs.Tags.{partTo, pieceAt, attributes, some}
+use Rattle.xml_names.specs.Names.{nameEnd, nameIs}
+use Rattle.xml_names.specs.Values.{opened, equalsAt}
+use Rattle.xml_names.specs.ElementNames.{elementEnd}
+use Rattle.xml_attributes.specs.Rows.{items, ending, row, rowFrom}
+use Rattle.xml_attributes.specs.Attributes.{attributeTo}
+use Rattle.xml_attributes.specs.Parts.{partTo, pieceAt, attributes, someAttribute}
 use Rattle.xml_values.specs.Attributes.{nameAfter, firstNamed, attributePlace, hasOther, isListed, isOther}
 use Rattle.judge_paths.specs.declared.DocumentType.the-variants.{Neither}
 use Rattle.judge_paths.specs.declared.Role.the-variants.{Root}
@@ -35,14 +35,14 @@ smallest = draft (text "<a/>") (0 ∷ 0 ∷ 0 ∷ 4 ∷ []) (roleNumber Root ∷
 
 -- 1, 5, 7, 9, 10 and 11 are broken, and no table is asked
 whole : demands smallest (headerOf smallest) 0 ≡ Broken ∷ Nothing ∷ Nothing ∷ Nothing ∷ Broken ∷ Nothing ∷ Broken ∷ Nothing ∷ Broken ∷ Broken ∷ Broken ∷ Nothing ∷ Nothing ∷ Nothing ∷ Nothing ∷ Nothing ∷ Nothing ∷ Nothing ∷ Nothing ∷ Nothing ∷ Nothing ∷ Nothing ∷ Nothing ∷ Nothing ∷ Nothing ∷ Nothing ∷ Nothing ∷ Nothing ∷ Nothing ∷ Nothing ∷ Nothing ∷ Nothing ∷ Nothing ∷ Nothing ∷ Nothing ∷ Nothing ∷ Nothing ∷ Nothing ∷ []
-unfolding every pairs begins runEnd walk from equal withoutSpace isGuid versionOf isDay nameEnd opened equalsAt elementEnd nameIs items ending row rowFrom attributeTo partTo pieceAt attributes some nameAfter firstNamed attributePlace hasOther isListed isOther draft is isKnown attribute said passes ancestor placed wants within chosenFrom chosen listedAt otherThan isDocument isDeclared hasSchema rootIsRight guidRoot idHolds setHolds codeIs typedCode hasType dayValue versionValue versionHolds oneAt oneOfRoot headerOf breaks1 breaks2 breaks3 breaks4 breaks5 demand6 breaks7 demand8 breaks9 breaks10 breaks11 demand12 breaks13 requester isOrganisation lacks lacksUpper lacksLower rightIds dunsId labelerId hasExtension dunsHolds isSaid isName rowOf labelerHolds isLabelerId isRegistrantId isKey breaks14 breaks15 breaks16 breaks17 demand18 breaks19 breaks20 demand21 demand22 hasContact oneSaid linesSaid isAddress addressHolds isUsa isHeld hasTelecoms personHolds breaks23 breaks24 breaks25 breaks26 breaks27 breaks28 breaks29 breaks30 ofNci isAgency inUsa hasEstablishment breaks31 breaks32 breaks33 demand34 breaks35 breaks36 breaks37 breaks38
+unfolding every pairs begins runEnd walk from equal withoutSpace isGuid versionOf isDay nameEnd opened equalsAt elementEnd nameIs items ending row rowFrom attributeTo partTo pieceAt attributes someAttribute nameAfter firstNamed attributePlace hasOther isListed isOther draft is isKnown attribute said passes ancestor placed wants within chosenFrom chosen listedAt otherThan isDocument isDeclared hasSchema rootIsRight guidRoot idHolds setHolds codeIs typedCode hasType dayValue versionValue versionHolds oneAt oneOfRoot headerOf breaks1 breaks2 breaks3 breaks4 breaks5 demand6 breaks7 demand8 breaks9 breaks10 breaks11 demand12 breaks13 requester isOrganisation lacks lacksUpper lacksLower rightIds dunsId labelerId hasExtension dunsHolds isSaid isName rowOf labelerHolds isLabelerId isRegistrantId isKey breaks14 breaks15 breaks16 breaks17 demand18 breaks19 breaks20 demand21 demand22 hasContact oneSaid linesSaid isAddress addressHolds isUsa isHeld hasTelecoms personHolds breaks23 breaks24 breaks25 breaks26 breaks27 breaks28 breaks29 breaks30 ofNci isAgency inUsa hasEstablishment breaks31 breaks32 breaks33 demand34 breaks35 breaks36 breaks37 breaks38
 whole = refl
 
 -- procedure 5 stands under its number, and so does 6, which asks nothing where 5 does not hold
 fifth : demandOf smallest (headerOf smallest) 5 0 ≡ Broken
-unfolding demandOf every pairs begins runEnd walk from equal withoutSpace isGuid versionOf isDay nameEnd opened equalsAt elementEnd nameIs items ending row rowFrom attributeTo partTo pieceAt attributes some nameAfter firstNamed attributePlace hasOther isListed isOther draft is isKnown attribute said passes ancestor placed wants within chosenFrom chosen listedAt otherThan isDocument isDeclared hasSchema rootIsRight guidRoot idHolds setHolds codeIs typedCode hasType dayValue versionValue versionHolds oneAt oneOfRoot headerOf breaks1 breaks2 breaks3 breaks4 breaks5 demand6 breaks7 demand8 breaks9 breaks10 breaks11 demand12 breaks13 requester isOrganisation lacks lacksUpper lacksLower rightIds dunsId labelerId hasExtension dunsHolds isSaid isName rowOf labelerHolds isLabelerId isRegistrantId isKey breaks14 breaks15 breaks16 breaks17 demand18 breaks19 breaks20 demand21 demand22 hasContact oneSaid linesSaid isAddress addressHolds isUsa isHeld hasTelecoms personHolds breaks23 breaks24 breaks25 breaks26 breaks27 breaks28 breaks29 breaks30 ofNci isAgency inUsa hasEstablishment breaks31 breaks32 breaks33 demand34 breaks35 breaks36 breaks37 breaks38
+unfolding demandOf every pairs begins runEnd walk from equal withoutSpace isGuid versionOf isDay nameEnd opened equalsAt elementEnd nameIs items ending row rowFrom attributeTo partTo pieceAt attributes someAttribute nameAfter firstNamed attributePlace hasOther isListed isOther draft is isKnown attribute said passes ancestor placed wants within chosenFrom chosen listedAt otherThan isDocument isDeclared hasSchema rootIsRight guidRoot idHolds setHolds codeIs typedCode hasType dayValue versionValue versionHolds oneAt oneOfRoot headerOf breaks1 breaks2 breaks3 breaks4 breaks5 demand6 breaks7 demand8 breaks9 breaks10 breaks11 demand12 breaks13 requester isOrganisation lacks lacksUpper lacksLower rightIds dunsId labelerId hasExtension dunsHolds isSaid isName rowOf labelerHolds isLabelerId isRegistrantId isKey breaks14 breaks15 breaks16 breaks17 demand18 breaks19 breaks20 demand21 demand22 hasContact oneSaid linesSaid isAddress addressHolds isUsa isHeld hasTelecoms personHolds breaks23 breaks24 breaks25 breaks26 breaks27 breaks28 breaks29 breaks30 ofNci isAgency inUsa hasEstablishment breaks31 breaks32 breaks33 demand34 breaks35 breaks36 breaks37 breaks38
 fifth = refl
 
 sixth : demandOf smallest (headerOf smallest) 6 0 ≡ Nothing
-unfolding demandOf every pairs begins runEnd walk from equal withoutSpace isGuid versionOf isDay nameEnd opened equalsAt elementEnd nameIs items ending row rowFrom attributeTo partTo pieceAt attributes some nameAfter firstNamed attributePlace hasOther isListed isOther draft is isKnown attribute said passes ancestor placed wants within chosenFrom chosen listedAt otherThan isDocument isDeclared hasSchema rootIsRight guidRoot idHolds setHolds codeIs typedCode hasType dayValue versionValue versionHolds oneAt oneOfRoot headerOf breaks1 breaks2 breaks3 breaks4 breaks5 demand6 breaks7 demand8 breaks9 breaks10 breaks11 demand12 breaks13 requester isOrganisation lacks lacksUpper lacksLower rightIds dunsId labelerId hasExtension dunsHolds isSaid isName rowOf labelerHolds isLabelerId isRegistrantId isKey breaks14 breaks15 breaks16 breaks17 demand18 breaks19 breaks20 demand21 demand22 hasContact oneSaid linesSaid isAddress addressHolds isUsa isHeld hasTelecoms personHolds breaks23 breaks24 breaks25 breaks26 breaks27 breaks28 breaks29 breaks30 ofNci isAgency inUsa hasEstablishment breaks31 breaks32 breaks33 demand34 breaks35 breaks36 breaks37 breaks38
+unfolding demandOf every pairs begins runEnd walk from equal withoutSpace isGuid versionOf isDay nameEnd opened equalsAt elementEnd nameIs items ending row rowFrom attributeTo partTo pieceAt attributes someAttribute nameAfter firstNamed attributePlace hasOther isListed isOther draft is isKnown attribute said passes ancestor placed wants within chosenFrom chosen listedAt otherThan isDocument isDeclared hasSchema rootIsRight guidRoot idHolds setHolds codeIs typedCode hasType dayValue versionValue versionHolds oneAt oneOfRoot headerOf breaks1 breaks2 breaks3 breaks4 breaks5 demand6 breaks7 demand8 breaks9 breaks10 breaks11 demand12 breaks13 requester isOrganisation lacks lacksUpper lacksLower rightIds dunsId labelerId hasExtension dunsHolds isSaid isName rowOf labelerHolds isLabelerId isRegistrantId isKey breaks14 breaks15 breaks16 breaks17 demand18 breaks19 breaks20 demand21 demand22 hasContact oneSaid linesSaid isAddress addressHolds isUsa isHeld hasTelecoms personHolds breaks23 breaks24 breaks25 breaks26 breaks27 breaks28 breaks29 breaks30 ofNci isAgency inUsa hasEstablishment breaks31 breaks32 breaks33 demand34 breaks35 breaks36 breaks37 breaks38
 sixth = refl

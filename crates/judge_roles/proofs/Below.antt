@@ -8,8 +8,8 @@ use native.Mathlib.Omega.{arith}
 use borrow.Author.Tests.{lt-ltb, le-ltb}
 use lib.Dec.{ltb}
 use lib.ListN.{length, take, drop, getD}
-use Rattle.xml_markup.specs.Names.{nameEnd}
-use Rattle.xml_elements.specs.Elements.{parentOf}
+use Rattle.xml_names.specs.Names.{nameEnd}
+use Rattle.xml_steps.specs.Reading.{parentOf}
 use Rattle.judge_paths.specs.declared.DocumentType.{DocumentType}
 use Rattle.judge_paths.specs.declared.Role.{Role}
 use Rattle.judge_paths.specs.declared.Role.the-variants.{Unknown}

@@ -3,7 +3,7 @@ ghost use mathlib.Core.Path.{_≡_};
 ghost use mathlib.Core.List.{_++_};
 ghost use Prim.Native.Nat.{_/_, _≤_, _<_};
 ghost use lib.ListN.{length, take, drop};
-ghost use Rattle.xml_elements.specs.Elements.{parentOf};
+ghost use Rattle.xml_steps.specs.Reading.{parentOf};
 ghost use Rattle.judge_paths.specs.Roles.{roleNumber};
 ghost use Rattle.judge_paths.specs.Paths.{roleOf};
 ghost use Rattle.judge_roles.specs.Roles.{rolesOf, numberedRole, filled};
@@ -29,7 +29,7 @@ fn role_in(document: &[u8], elements: &[u32], kind: DocumentType, n: usize, abov
         return Role::Unknown;
     }
     let start = first + 1;
-    let end = xml_markup::name_end(document, start);
+    let end = xml_names::name_end(document, start);
     judge_paths::child_role(kind, above, &document[start..end])
 }
 

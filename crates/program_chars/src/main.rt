@@ -47,7 +47,7 @@ fn good(c: u32) -> u64
     ensures { λ r. ⌜ r ≤ 1 ⌝ }
 {
     let mut bytes = [0u8; 4];
-    let n = text_chars::encode(c, &mut bytes, 0);
+    let n = text_encode::encode(c, &mut bytes, 0);
     at(&bytes[..n], n)
 }
 

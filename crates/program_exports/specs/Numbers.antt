@@ -11,7 +11,7 @@ use Rattle.judge_check.specs.declared.Answer.the-variants.{Findings, Refused}
 use Rattle.judge_check.specs.Check.{Outcome as Checking}
 use Rattle.xml_values.specs.declared.View.{View}
 use Rattle.xml_values.specs.declared.View.the-variants.{Document, Scratch}
-use Rattle.xml_value_reader.specs.Shown.{Outcome as Reading}
+use Rattle.xml_value_reader.specs.Shown.{ValueOutcome as Reading}
 use Rattle.program_exports.specs.declared.Numbers.{Numbers}
 use Rattle.program_exports.specs.declared.Part.{Part}
 

@@ -6,7 +6,7 @@ use Prim.Native.Nat.{ℕ}
 use Rattle.text_scan.specs.Unique.{only}
 use Rattle.list_findings.specs.Merge.{Outcome as Merging}
 use Rattle.judge_check.specs.Check.{Outcome as Checking}
-use Rattle.xml_value_reader.specs.Shown.{Outcome as Reading}
+use Rattle.xml_value_reader.specs.Shown.{ValueOutcome as Reading}
 use Rattle.program_exports.specs.declared.Numbers.{Numbers}
 use Rattle.program_exports.specs.declared.Part.{Part}
 use Rattle.program_exports.specs.Numbers.{Checks, Merges, Reads}

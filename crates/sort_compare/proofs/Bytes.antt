@@ -13,7 +13,7 @@ use Rattle.text_scan.specs.Lists.{runEnd, runFrom}
 use Rattle.text_scan.proofs.Tests.{never}
 use Rattle.text_scan.proofs.Within.{inside, holds-there, drop-here}
 use Rattle.text_scan.proofs.Lists.{run-least}
-use Rattle.xml_markup.specs.Names.{isNameStart, isNameChar, nameEnd}
+use Rattle.xml_names.specs.Names.{isNameStart, isNameChar, nameEnd}
 use Rattle.sort_compare.specs.declared.Order.the-variants.{Less, Same, More}
 use Rattle.sort_compare.specs.Order.{order}
 use Rattle.sort_compare.specs.Keys.{nameOf, byteIn}

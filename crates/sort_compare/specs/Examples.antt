@@ -4,7 +4,7 @@ use mathlib.Core.Path.{_≡_, refl}
 use mathlib.Core.List.{[], _∷_}
 use Rattle.text_scan.specs.Bytes.{text}
 use Rattle.text_scan.specs.Lists.{runEnd}
-use Rattle.xml_markup.specs.Names.{nameEnd}
+use Rattle.xml_names.specs.Names.{nameEnd}
 use Rattle.sort_compare.specs.declared.Order.the-variants.{Less, Same, More}
 use Rattle.sort_compare.specs.declared.By.{By}
 use Rattle.sort_compare.specs.Order.{order}

@@ -5,7 +5,7 @@ use mathlib.Core.Bool.{Bool}
 use mathlib.Core.List.{List}
 use lib.ListN.{getD, take, drop}
 use Rattle.text_scan.specs.Choice.{pick}
-use Rattle.xml_markup.specs.Names.{nameEnd}
+use Rattle.xml_names.specs.Names.{nameEnd}
 use Rattle.sort_compare.specs.declared.By.{By}
 use Rattle.sort_compare.specs.Fields.{rowKey}
 

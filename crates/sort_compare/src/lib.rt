@@ -1,7 +1,7 @@
 // Which of two positions of a byte string comes first: by the names that start there, or by fields of the rows that start there. No comparison reads
 // further than the first difference.
 ghost use mathlib.Core.Path.{_≡_};
-ghost use Rattle.xml_markup.specs.Names.{isNameStart, isNameChar};
+ghost use Rattle.xml_names.specs.Names.{isNameStart, isNameChar};
 ghost use Rattle.sort_compare.specs.Order.{order};
 ghost use Rattle.sort_compare.specs.Keys.{nameOf, byteIn, keyAt};
 
@@ -35,7 +35,7 @@ fn first_byte(s: &[u8], i: usize) -> u8
     if s.len() <= i {
         return 0;
     }
-    if xml_markup::is_name_start(s[i]) {
+    if xml_names::is_name_start(s[i]) {
         return s[i];
     }
     0
@@ -48,7 +48,7 @@ fn next_byte(s: &[u8], i: usize) -> u8
     if s.len() <= i {
         return 0;
     }
-    if xml_markup::is_name_char(s[i]) {
+    if xml_names::is_name_char(s[i]) {
         return s[i];
     }
     0

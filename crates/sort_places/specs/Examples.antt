@@ -5,7 +5,7 @@ use mathlib.Core.Bool.{true, false}
 use mathlib.Core.List.{[], _∷_}
 use Rattle.text_scan.specs.Bytes.{text}
 use Rattle.text_scan.specs.Lists.{runEnd}
-use Rattle.xml_markup.specs.Names.{nameEnd}
+use Rattle.xml_names.specs.Names.{nameEnd}
 use Rattle.sort_compare.specs.declared.By.{By}
 use Rattle.sort_compare.specs.Order.{order}
 use Rattle.sort_compare.specs.Keys.{keyAt}

@@ -14,7 +14,7 @@ use mir.Syntax.{w32}
 use Rattle.text_scan.specs.Choice.{pick, _or_, _and_, not}
 use Rattle.text_scan.specs.Bytes.{lower}
 use Rattle.text_scan.specs.Lists.{pairs}
-use Rattle.text_scan.proofs.Tests.{never, and-true}
+use Rattle.text_scan.proofs.Tests.{never, and-true, and-join}
 use Rattle.text_facts.specs.Strings.{equal, equalInAnyCase}
 use Rattle.table_lines.specs.Lines.{Row, other, isTab, field, fieldsOf, lineAt}
 use Rattle.table_lines.proofs.Runs.{front, before}
@@ -27,16 +27,12 @@ use Rattle.sort_compare.proofs.Skipping.{drop-skip, skip-low}
 use Rattle.table_index.specs.Indexed.{isIndexed, byOf, keepsRow, keyFrom, keyOf, hasKey, keyPlace}
 
 -- ---- keys compare field by field
-and-join : (a b c : Bool) → a and b and c ≡ (a and b) and c
-and-join true b c = refl
-and-join false b c = refl
-
 field-by : (f g xs ys : List ℕ) → pairs eqb (map suc f ++ 0 ∷ xs) (map suc g ++ 0 ∷ ys) ≡ pairs eqb f g and pairs eqb xs ys
 unfolding pairs
 field-by [] [] xs ys = refl
 field-by [] (y ∷ g) xs ys = rw (eqb·zero-suc y)
 field-by (x ∷ f) [] xs ys = rw (eqb·suc-zero x)
-field-by (x ∷ f) (y ∷ g) xs ys = rw (eqb·suc-suc x y, field-by f g xs ys) (and-join (eqb x y) (pairs eqb f g) (pairs eqb xs ys))
+field-by (x ∷ f) (y ∷ g) xs ys = rw (eqb·suc-suc x y, field-by f g xs ys) (sym (and-join (eqb x y) (pairs eqb f g) (pairs eqb xs ys)))
 
 coded-by : (f g : List ℕ) (fs gs : List (List ℕ)) → pairs eqb (coded (f ∷ fs)) (coded (g ∷ gs)) ≡ pairs eqb f g and pairs eqb (coded fs) (coded gs)
 unfolding coded

@@ -1,13 +1,13 @@
 -- Which numbers are a Char, by the ranges in which the code looks.
 -- Assumes nothing.
-use mathlib.Core.Path.{_≡_, sym}
-use mathlib.Core.Bool.{true, false}
+use mathlib.Core.Path.{_≡_, sym, refl, _∙_}
+use mathlib.Core.Bool.{true, false, Bool}
 use Prim.Native.Nat.{ℕ, _<_, _≤_}
 use native.Mathlib.Omega.{arith}
-use borrow.Author.Tests.{le-leb, ne-eqb}
+use borrow.Author.Tests.{le-leb, ne-eqb, leb-true, leb-false}
 use lib.Dec.{leb, eqb}
 use Rattle.text_scan.specs.Choice.{_or_, between}
-use Rattle.text_scan.proofs.Tests.{or-false, under, within, over}
+use Rattle.text_scan.proofs.Tests.{or-false, under, within, over, never}
 use Rattle.text_chars.specs.Utf8.{isXmlChar}
 
 module _ (x : ℕ) where
@@ -43,3 +43,11 @@ module _ (x : ℕ) where
 
   pub third : 0x10000 ≤ x → leb x 0x10FFFF ≡ isXmlChar x
   third h = rw (no-control (omega arith), over 0x20 0xD7FF x (omega arith), over 0xE000 0xFFFD x (omega arith), le-leb 0x10000 x h)
+
+-- a Char is at most 10FFFF
+pub char-most : (c : ℕ) → isXmlChar c ≡ true → c ≤ 0x10FFFF
+char-most c e = go (leb c 0x10FFFF) refl
+  where
+    go : (t : Bool) → leb c 0x10FFFF ≡ t → c ≤ 0x10FFFF
+    go true q = leb-true c 0x10FFFF q
+    go false q = never (sym e ∙ sym (third c (omega (arith, leb-false c 0x10FFFF q))) ∙ q)

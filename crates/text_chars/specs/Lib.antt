@@ -1,4 +1,3 @@
 pub mod Utf8
-pub mod Encode
 pub mod Unique
 pub mod Examples

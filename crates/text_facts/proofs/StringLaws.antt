@@ -3,17 +3,16 @@
 use mathlib.Core.Path.{_≡_, refl, sym, _∙_, ap}
 use mathlib.Core.Bool.{Bool, true, false}
 use mathlib.Core.List.{List, [], _∷_}
-use Prim.Native.Nat.{ℕ, suc, _+_, _<_, _≤_}
+use Prim.Native.Nat.{ℕ, _+_, _<_}
 use native.Mathlib.Omega.{arith}
 use borrow.Author.Tests.{eq-eqb, ne-eqb, eqb-true}
-use lib.Dec.{eqb, leb}
+use lib.Dec.{eqb}
 use lib.ListN.{length, getD}
-use Rattle.text_scan.specs.Choice.{_or_, _and_, not}
-use Rattle.text_scan.specs.Bytes.{text, isDigit, isLowerHex, lower}
+use Rattle.text_scan.specs.Choice.{not}
+use Rattle.text_scan.specs.Bytes.{text, isDigit, isLowerHex}
 use Rattle.text_scan.specs.Lists.{every, pairs}
-use Rattle.text_scan.proofs.Tests.{never, and-left, and-right, and-true, and-false, or-false}
+use Rattle.text_scan.proofs.Tests.{never, and-left, and-right, and-true, or-false}
 use Rattle.text_scan.proofs.Lists.{Every, every-goes, every-stops, Pairs, pairs-other, keys-stops}
-use Rattle.text_scan.proofs.Bytes.{range}
 use Rattle.text_facts.specs.Strings.{equal, withoutSpace, guidByte, isOneOf, reserved, isLabelerCode}
 
 -- ---- equality is what it should be

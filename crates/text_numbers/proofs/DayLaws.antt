@@ -1,17 +1,16 @@
 -- Days, by the tests in which the code looks.
 -- Assumes nothing.
-use mathlib.Core.Path.{_≡_, refl, sym, _∙_, ap}
+use mathlib.Core.Path.{_≡_, sym, _∙_}
 use mathlib.Core.Bool.{Bool, true, false}
 use mathlib.Core.List.{List}
 use Prim.Native.Nat.{ℕ, _-_, _%_, _<_, _≤_}
 use native.Mathlib.Omega.{arith}
-use borrow.Author.Tests.{eq-eqb, ne-eqb, le-leb, lt-leb}
+use borrow.Author.Tests.{ne-eqb, le-leb, lt-leb}
 use lib.Dec.{eqb, leb}
-use lib.ListN.{length, take, drop, getD, length-take, length-drop}
-use Rattle.text_scan.specs.Choice.{_and_, between}
+use lib.ListN.{length, take, drop, getD, length-take}
 use Rattle.text_scan.specs.Bytes.{isDigit}
 use Rattle.text_scan.specs.Lists.{every}
-use Rattle.text_scan.proofs.Tests.{and-false, under, over, within}
+use Rattle.text_scan.proofs.Tests.{under, over, within}
 use Rattle.text_scan.proofs.Lists.{every-take, every-drop}
 use Rattle.text_numbers.specs.Numbers.{valueOf}
 use Rattle.text_numbers.specs.Days.{isLeap, monthLengths, monthLength, isDate, isDay}

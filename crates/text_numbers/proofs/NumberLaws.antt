@@ -1,21 +1,20 @@
 -- Decimal values, by what the loop of `value` knows: after i digits the value is below the i-th power of ten.
 -- Assumes nothing.
-use mathlib.Core.Path.{_≡_, refl, sym, _∙_, ap}
+use mathlib.Core.Path.{_≡_, sym, _∙_}
 use mathlib.Core.Bool.{Bool, true, false}
-use mathlib.Core.List.{List, [], _∷_}
-use Prim.Native.Nat.{ℕ, suc, _+_, _-_, _*_, _^_, _<_, _≤_}
+use mathlib.Core.List.{List}
+use Prim.Native.Nat.{ℕ, _+_, _-_, _*_, _^_, _<_, _≤_}
 use native.Mathlib.Nat.{pow-succ', pow-le-pow-right}
 use native.Mathlib.Numerals.{add-one}
 use native.Mathlib.Omega.{arith}
-use borrow.Author.Tests.{leb-true, le-leb, lt-leb}
+use borrow.Author.Tests.{leb-true}
 use lib.Dec.{leb}
-use lib.ListN.{length, take, drop, getD, drop-of-length-le}
+use lib.ListN.{length, drop, getD, drop-of-length-le}
 use mir.Val.{Fits}
 use mir.Syntax.{w32}
-use Rattle.text_scan.specs.Choice.{_and_}
 use Rattle.text_scan.specs.Bytes.{isDigit}
 use Rattle.text_scan.specs.Lists.{every}
-use Rattle.text_scan.proofs.Tests.{and-left, and-right, and-false, under, over, within}
+use Rattle.text_scan.proofs.Tests.{and-right, under, over, within}
 use Rattle.text_scan.proofs.Within.{drop-here}
 use Rattle.text_scan.proofs.Lists.{every-at}
 use Rattle.text_numbers.specs.Numbers.{valueAfter, valueOf, versionOf}

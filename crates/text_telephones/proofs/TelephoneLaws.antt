@@ -1,6 +1,6 @@
 -- Telephone values, by the pieces that the code finds in a row.
 -- Assumes nothing.
-use mathlib.Core.Path.{_≡_, refl, sym, _∙_, ap}
+use mathlib.Core.Path.{_≡_, refl, sym, _∙_}
 use mathlib.Core.Bool.{Bool, true, false}
 use mathlib.Core.List.{List}
 use Prim.Native.Nat.{ℕ, _+_, _-_, _<_, _≤_, _^_}
@@ -10,13 +10,13 @@ use lib.Dec.{eqb, ltb}
 use lib.ListN.{length, getD}
 use mir.Val.{Fits}
 use mir.Syntax.{w64}
-use Rattle.text_scan.specs.Choice.{pick, _or_, _and_}
+use Rattle.text_scan.specs.Choice.{pick, _and_}
 use Rattle.text_scan.specs.Bytes.{text, isDigit}
-use Rattle.text_scan.specs.Lists.{stands, runFrom}
-use Rattle.text_scan.specs.Walk.{Next, skip, done, from}
+use Rattle.text_scan.specs.Lists.{stands}
+use Rattle.text_scan.specs.Walk.{from}
 use Rattle.text_scan.proofs.Tests.{pick-case, and-left}
 use Rattle.text_scan.proofs.Within.{there, next-fits}
-use Rattle.text_scan.proofs.Lists.{run-least, run-most, text-fits}
+use Rattle.text_scan.proofs.Lists.{run-most, text-fits}
 use Rattle.text_scan.proofs.Walk as walks
 use Rattle.text_telephones.specs.Telephones.{digitsEnd, groupEnd, groupStep, groupsEnd, endsAt, isTelephone}
 

@@ -15,7 +15,8 @@ use Rattle.sort_compare.specs.Keys.{nameOf, keyAt}
 use Rattle.sort_compare.proofs.Ordering.{same-less, in-order, order-refl, order-same, less-before}
 use Rattle.sort_places.specs.Sorting.{leads, rising, Sorted}
 use Rattle.sort_places.proofs.Sorting.{sorted-rises, sorted-same}
-use Rattle.xml_distinct.specs.Repeats.{isCalled, twice, neighboursFrom, neighbours}
+use Rattle.xml_distinct.specs.Repeats.{isCalled, twice}
+use Rattle.xml_distinct.specs.Neighbours.{neighboursFrom, neighbours}
 use Rattle.xml_distinct.proofs.Counting.{same-pairs, pairs-same, same-twice}
 
 module _ (s : List ℕ) where

@@ -14,7 +14,8 @@ use Rattle.sort_compare.specs.declared.Order.the-variants.{Less, Same, More}
 use Rattle.sort_compare.specs.Order.{order}
 use Rattle.sort_compare.specs.Keys.{nameOf, keyAt}
 use Rattle.sort_compare.proofs.Ordering.{same-less, more-same, order-refl, order-same}
-use Rattle.xml_distinct.specs.Repeats.{isCalled, neighboursFrom, neighbours}
+use Rattle.xml_distinct.specs.Repeats.{isCalled}
+use Rattle.xml_distinct.specs.Neighbours.{neighboursFrom, neighbours}
 use Rattle.xml_distinct.proofs.Counting.{same-pairs, pairs-same}
 
 -- the answer for all is that for the position before the place i and those from it on

@@ -5,8 +5,9 @@ use mathlib.Core.Bool.{true, false}
 use mathlib.Core.List.{[], _∷_}
 use Rattle.text_scan.specs.Bytes.{text}
 use Rattle.text_scan.specs.Lists.{some, pairs, runEnd}
-use Rattle.xml_markup.specs.Names.{nameEnd}
-use Rattle.xml_distinct.specs.Repeats.{twice, neighboursFrom, neighbours}
+use Rattle.xml_names.specs.Names.{nameEnd}
+use Rattle.xml_distinct.specs.Repeats.{twice}
+use Rattle.xml_distinct.specs.Neighbours.{neighboursFrom, neighbours}
 
 twice-no : twice (text "xy='' x='' y=''") (0 ∷ 6 ∷ 11 ∷ []) ≡ false
 unfolding nameEnd runEnd pairs some twice

@@ -1,3 +1,4 @@
 pub mod Repeats
 pub mod Examples
 pub mod Unique
+pub mod Neighbours

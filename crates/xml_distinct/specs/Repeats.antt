@@ -16,12 +16,3 @@ isCalled s t b = pairs eqb t (nameOf s b)
 unfoldable pub twice : List ℕ → List ℕ → Bool
 twice s [] = false
 twice s (b ∷ bs) = some (isCalled s (nameOf s b)) bs or twice s bs
-
--- two neighbours have the same name, where b stands before the others
-unfoldable pub neighboursFrom : List ℕ → ℕ → List ℕ → Bool
-neighboursFrom s b [] = false
-neighboursFrom s b (c ∷ cs) = isCalled s (nameOf s b) c or neighboursFrom s c cs
-
-unfoldable pub neighbours : List ℕ → List ℕ → Bool
-neighbours s [] = false
-neighbours s (b ∷ bs) = neighboursFrom s b bs

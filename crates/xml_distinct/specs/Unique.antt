@@ -4,8 +4,8 @@ use mathlib.Core.Path.{_≡_}
 use mathlib.Core.Bool.{Bool}
 use mathlib.Core.List.{List}
 use Prim.Native.Nat.{ℕ}
-use Rattle.xml_markup.specs.Unique.{unique}
+use Rattle.text_scan.specs.Unique.{only}
 use Rattle.xml_distinct.specs.Repeats.{twice}
 
 pub repeats : (s starts : List ℕ) (x y : Bool) → x ≡ twice s starts → y ≡ twice s starts → x ≡ y
-repeats s starts = unique (twice s starts)
+repeats s starts x y = only

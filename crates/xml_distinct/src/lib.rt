@@ -3,7 +3,8 @@ ghost use mathlib.Core.Path.{_≡_};
 ghost use Prim.Native.Nat.{_*_, _≤_};
 ghost use lib.ListN.{length};
 ghost use Rattle.sort_places.specs.Sorting.{Rearranged};
-ghost use Rattle.xml_distinct.specs.Repeats.{twice, neighbours};
+ghost use Rattle.xml_distinct.specs.Repeats.{twice};
+ghost use Rattle.xml_distinct.specs.Neighbours.{neighbours};
 use sort_compare::By;
 use sort_compare::Order;
 

@@ -3,31 +3,46 @@
 use mathlib.Core.Path.{_≡_, refl, sym, _∙_, ap, subst}
 use mathlib.Core.Bool.{Bool, true, false}
 use mathlib.Core.List.{List}
-use Prim.Native.Nat.{ℕ, zero, suc, _-_, _<_, _≤_}
+use Prim.Native.Nat.{ℕ, zero, suc, _-_, _*_, _<_, _≤_}
 use native.Mathlib.Omega.{arith}
 use borrow.Author.Tests.{lt-ltb, le-ltb, eq-eqb, ne-eqb, ltb-true}
 use lib.Dec.{ltb, eqb}
 use lib.ListN.{length}
-use Rattle.text_scan.specs.Choice.{pick}
+use Rattle.text_scan.specs.Choice.{pick, _and_}
 use Rattle.text_scan.specs.Turns.{on, out}
-use Rattle.text_scan.proofs.Turns.{run-on, run-out}
-use Rattle.text_scan.proofs.Tests.{and-false}
+use Rattle.text_scan.proofs.Turns.{run-on, run-out, run-keeps}
+use Rattle.text_scan.proofs.Tests.{and-false, pick-case}
 use Rattle.xml_reader.specs.declared.Reader.{Reader}
+use Rattle.xml_reader.specs.Limits.{documentLimit, elementsLimit}
 use Rattle.xml_pieces.specs.declared.Kind.{Kind}
 use Rattle.xml_pieces.specs.declared.Kind.the-variants.{End}
-use Rattle.xml_pieces.specs.declared.Part.{Part}
-use Rattle.xml_pieces.specs.declared.Part.the-variants.{Inside}
+use Rattle.xml_pieces.specs.declared.DocumentPart.{DocumentPart}
+use Rattle.xml_pieces.specs.declared.DocumentPart.the-variants.{Inside}
 use Rattle.xml_pieces.specs.declared.Scanned.{Scanned}
 use Rattle.xml_pieces.specs.declared.Scanned.the-variants.{Piece, Refused as Refusing}
 use Rattle.xml_pieces.specs.Pieces.{pieceAt}
 use Rattle.xml_pieces.proofs.Within.{Within, piece-within, end-inside}
 use Rattle.xml_elements.specs.declared.Answer.{Answer}
 use Rattle.xml_elements.specs.declared.Answer.the-variants.{Elements, Refused}
-use Rattle.xml_elements.specs.declared.Stepped.{Stepped}
-use Rattle.xml_elements.specs.declared.Stepped.the-variants.{On, Stopped}
-use Rattle.xml_elements.specs.Elements.{Reading, Read, refused, fresh, partOf, byPiece, atEnd, turn, left, readFrom}
-use Rattle.xml_elements.specs.Walked.{reading, turnOf, readOf, refusalOf, stopOf, Sound, Steps}
-use Rattle.xml_elements.proofs.Keeps.{never-on, piece-sound, turn-falls}
+use Rattle.xml_steps.specs.declared.Stepped.{Stepped}
+use Rattle.xml_steps.specs.declared.Stepped.the-variants.{On, Stopped}
+use Rattle.xml_steps.specs.Reading.{Reading, Read, refused, fresh, partOf, byPiece, elements}
+use Rattle.xml_elements.specs.Elements.{atEnd, turn, left, readFrom}
+use Rattle.xml_steps.specs.Walked.{reading, turnOf, Sound, Steps}
+use Rattle.xml_elements.specs.Walked.{readOf, refusalOf, stopOf}
+use Rattle.xml_steps.proofs.Keeps.{never-on, gone, behind-piece, piece-sound, piece-out}
+
+-- ---- the measure falls
+pub turn-falls : (s : List ℕ) (r t : Reading) → turn s r ≡ on t → left s t < left s r
+unfolding turn
+turn-falls s r t e = go (ltb (r .at) (length s)) refl e
+  where
+    go : (b : Bool) → ltb (r .at) (length s) ≡ b → pick b (byPiece s r (pieceAt s (r .at) (partOf (r .count) (r .depth)))) (out (atEnd s r)) ≡ on t → left s t < left s r
+    go true q e =
+        let h : r .at < length s = ltb-true (r .at) (length s) q in
+        let g : r .at < t .at = behind-piece s r t (pieceAt s (r .at) (partOf (r .count) (r .depth))) (piece-within s (r .at) (partOf (r .count) (r .depth)) h) e in
+        omega arith
+    go false q e = never-on _ t e
 
 -- ---- a turn changes nothing of the answer
 module _ (s : List ℕ) (r : Reading) where
@@ -79,7 +94,7 @@ module _ (s : List ℕ) (d : Reader) (numbers : List ℕ) (w : Told s d numbers)
       let q : d .depth ≡ 0 = omega arith in
       sym (told-end h ∙ rw (eq-eqb (d .depth) 0 q, lt-ltb 0 (d .count) (omega arith)))
 
-  module _ (h : d .at < length s) (p : Part) (ep : p ≡ partOf (d .count) (d .depth)) (x : Scanned) (ex : x ≡ pieceAt s (d .at) p) where
+  module _ (h : d .at < length s) (p : DocumentPart) (ep : p ≡ partOf (d .count) (d .depth)) (x : Scanned) (ex : x ≡ pieceAt s (d .at) p) where
     this-turn : turn s (reading d numbers) ≡ byPiece s (reading d numbers) x
     unfolding turn reading
     this-turn = rw (lt-ltb _ _ h, ← ep, ← ex)
@@ -93,7 +108,7 @@ module _ (s : List ℕ) (d : Reader) (numbers : List ℕ) (w : Told s d numbers)
       there : Within (d .at) (length s) (Piece k j)
       there = subst (Within (d .at) (length s)) (sym ex ∙ e) (piece-within s (d .at) p h)
 
-      pub steps : length s ≤ 1048576 → Steps s (reading d numbers) k j
+      pub steps : length s ≤ documentLimit → Steps s (reading d numbers) k j
       unfolding reading
       steps short =
           record {
@@ -106,7 +121,7 @@ module _ (s : List ℕ) (d : Reader) (numbers : List ℕ) (w : Told s d numbers)
                 (part-deep (d .count) (d .depth) (sym ep ∙ end-inside s (d .at) j p z .0), end-inside s (d .at) j p z .1);
           }
 
-      module _ (short : length s ≤ 1048576) (y : Stepped) (numbers′ : List ℕ) (ey : turnOf (d .at) y numbers′ ≡ byPiece s (reading d numbers) (Piece k j)) where
+      module _ (short : length s ≤ documentLimit) (y : Stepped) (numbers′ : List ℕ) (ey : turnOf (d .at) y numbers′ ≡ byPiece s (reading d numbers) (Piece k j)) where
         next-turn : turn s (reading d numbers) ≡ turnOf (d .at) y numbers′
         next-turn = this-turn ∙ ap (byPiece s (reading d numbers)) e ∙ sym ey
 
@@ -144,3 +159,23 @@ turn-sound s r t w e = go (ltb (r .at) (length s)) refl (pieceAt s (r .at) (part
         piece-sound s r t j w (n .0) (n .1) k (λ z. part-deep (r .count) (r .depth) (end-inside s (r .at) j _ (ex ∙ ap (λ (y : Kind). Piece y j) z) .0)) e
     go true q (Refusing n) ex e = refused-never s r t n e
     go false q x ex e = never-on (atEnd s r) t e
+
+-- ---- what the walk leaves: no more elements than the limit, and four numbers for each
+abbrev pub Rowed : Read → Type 0
+Rowed (refused n place) = Unit {0}
+Rowed (elements n rows) = (n ≤ elementsLimit) × (length rows ≡ 4 * n)
+
+turn-rowed : (s : List ℕ) (r : Reading) (x : Read) → Sound (length s) r → turn s r ≡ out x → Rowed x
+unfolding turn
+turn-rowed s r x d e = go (ltb (r .at) (length s)) e
+  where
+    go : (b : Bool) → pick b (byPiece s r (pieceAt s (r .at) (partOf (r .count) (r .depth)))) (out (atEnd s r)) ≡ out x → Rowed x
+    go true e = piece-out Rowed (λ n place. tt) s r x (pieceAt s (r .at) (partOf (r .count) (r .depth))) e
+    go false e =
+        subst Rowed (gone (atEnd s r) x e)
+        (pick-case Rowed (eqb (r .depth) 0 and ltb 0 (r .count)) _ _ (λ _. (d .few, d .wide)) (λ _. tt))
+
+pub reading-rowed : (s : List ℕ) → Rowed (readFrom s fresh)
+unfolding readFrom
+reading-rowed s =
+    run-keeps (turn s) (refused 7 (length s)) (left s) (turn-falls s) (Sound (length s)) Rowed (turn-sound s) (turn-rowed s) fresh (fresh-sound (length s))

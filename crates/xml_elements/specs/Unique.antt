@@ -5,9 +5,9 @@ use mathlib.Core.Path.{_≡_}
 use mathlib.Core.List.{List}
 use Rattle.text_scan.specs.Unique.{only}
 use Rattle.xml_elements.specs.declared.Answer.{Answer}
-use Rattle.xml_elements.specs.Elements.{elementsOf, Leaves}
+use Rattle.xml_elements.specs.Elements.{elementsOf, ElementsLeft}
 
-module _ (document table : List ℕ) (a a′ : Answer) (t t′ : List ℕ) (l : Leaves (elementsOf document) table a t) (l′ : Leaves (elementsOf document) table a′ t′) where
+module _ (document table : List ℕ) (a a′ : Answer) (t t′ : List ℕ) (l : ElementsLeft (elementsOf document) table a t) (l′ : ElementsLeft (elementsOf document) table a′ t′) where
   pub one-answer : a ≡ a′
   one-answer = only (l .answers) (l′ .answers)
 

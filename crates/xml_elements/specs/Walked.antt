@@ -1,30 +1,15 @@
--- What the code holds, as a reading: the reader, and the rows in the front of a lent run of numbers.
+-- What the contracts of the private functions speak of, and no definition of document 01.
 -- Assumes nothing.
-use Prim.Native.Nat.{ℕ, _+_, _*_, _-_, _<_, _≤_}
-use mathlib.Core.Path.{_≡_}
+use Prim.Native.Nat.{ℕ, _*_}
 use mathlib.Core.List.{List}
-use lib.ListN.{length, take, drop, getD}
-use Rattle.text_scan.specs.Lists.{runFrom}
-use Rattle.text_scan.specs.Turns.{Turn, on, out}
-use Rattle.xml_markup.specs.Names.{isNameChar}
-use Rattle.xml_reader.specs.declared.Reader.{Reader}
-use Rattle.xml_reader.specs.Limits.{documentLimit, elementsLimit}
+use lib.ListN.{take}
 use Rattle.xml_pieces.specs.declared.Scanned.{Scanned}
 use Rattle.xml_pieces.specs.declared.Scanned.the-variants.{Piece, Refused as Refusing}
-use Rattle.xml_pieces.specs.declared.Kind.{Kind}
-use Rattle.xml_pieces.specs.declared.Kind.the-variants.{End}
 use Rattle.xml_elements.specs.declared.Answer.{Answer}
 use Rattle.xml_elements.specs.declared.Answer.the-variants.{Elements, Refused}
-use Rattle.xml_elements.specs.declared.Stepped.{Stepped}
-use Rattle.xml_elements.specs.declared.Stepped.the-variants.{On, Stopped}
-use Rattle.xml_elements.specs.Elements.{Reading, Read, refused, elements, parentOf}
-
-unfoldable pub reading : Reader → List ℕ → Reading
-reading d numbers = record { at = d .at; count = d .count; depth = d .depth; top = d .top; rows = take (4 * d .count) numbers }
-
-unfoldable pub turnOf : ℕ → Stepped → List ℕ → Turn Reading Read
-turnOf at (On d) numbers = on (reading d numbers)
-turnOf at (Stopped n) numbers = out (refused n at)
+use Rattle.xml_steps.specs.declared.Stepped.{Stepped}
+use Rattle.xml_steps.specs.declared.Stepped.the-variants.{On, Stopped}
+use Rattle.xml_steps.specs.Reading.{Read, refused, elements}
 
 unfoldable pub readOf : Answer → List ℕ → Read
 readOf (Elements n) numbers = elements n (take (4 * n) numbers)
@@ -38,31 +23,3 @@ refusalOf (Refusing n) at = Refused n at
 abbrev pub stopOf : Stepped → ℕ → Answer
 stopOf (On d) at = Refused 7 at
 stopOf (Stopped n) at = Refused n at
-
--- the bytes of a name from position i on, whether a name starts there or not
-unfoldable pub nameBytes : List ℕ → ℕ → List ℕ
-nameBytes s i = take (runFrom isNameChar s i - i) (drop i s)
-
--- what each reading keeps, so that its numbers are places and rows that exist
-pub record Sound (n : ℕ) (r : Reading) : Type 0 where
-  pub within : r .at ≤ n
-  pub counted : r .count ≤ r .at
-  pub few : r .count ≤ elementsLimit
-  pub shallow : r .depth ≤ r .count
-  pub wide : length (r .rows) ≡ 4 * r .count
-  pub inner : r .top ≤ r .count - 1
-  pub low : (k : ℕ) → getD (r .rows) k 0 ≤ r .at
-  pub above : (k : ℕ) → parentOf (r .rows) k ≤ k
-
--- what a step asks: a sound reading inside the document, and the place after a piece there; an end tag is inside the root and
--- has its two first bytes
-pub record Steps (s : List ℕ) (r : Reading) (kind : Kind) (after : ℕ) : Type 0 where
-  pub sound : Sound (length s) r
-  pub short : length s ≤ documentLimit
-  pub ahead : r .at < after
-  pub inside : after ≤ length s
-  pub ends : kind ≡ End → (0 < r .depth) × (r .at + 2 ≤ after)
-
--- the numbers have room for the rows of each number of elements that n bytes can hold, of which each takes one at least
-pub record Roomy (n : ℕ) (numbers : List ℕ) : Type 0 where
-  pub room : (count : ℕ) → count ≤ n → count ≤ elementsLimit → 4 * count ≤ length numbers

@@ -21,7 +21,7 @@ use Rattle.text_scan.proofs.Within.{there}
 use Rattle.text_scan.proofs.Lists.{text-fits}
 use Rattle.text_scan.proofs.Ending.{Within, DoneWithin}
 use Rattle.text_scan.proofs.Walk as walks
-use Rattle.xml_markup.proofs.Steps.{further}
+use Rattle.text_scan.proofs.Walk.{further}
 use Rattle.xml_markup.specs.Comments.{commentStep, commentEnd}
 
 -- the comment's end, told from its start, is the end of the walk from i

@@ -22,12 +22,12 @@ use Rattle.text_scan.proofs.Within.{there}
 use Rattle.text_scan.proofs.Lists.{text-fits}
 use Rattle.text_scan.proofs.Ending.{Within, DoneWithin}
 use Rattle.text_scan.proofs.Walk as walks
-use Rattle.xml_markup.proofs.Steps.{further}
-use Rattle.xml_markup.proofs.Names.{name-least}
+use Rattle.text_scan.proofs.Walk.{further}
+use Rattle.xml_names.proofs.Names.{name-least}
 use Rattle.xml_markup.specs.declared.Scanned.{Scanned}
 use Rattle.xml_markup.specs.declared.Scanned.the-variants.{End, Refused}
 use Rattle.xml_markup.specs.AnyCase.{standsAnyCase}
-use Rattle.xml_markup.specs.Names.{isSpace, nameEnd}
+use Rattle.xml_names.specs.Names.{isSpace, nameEnd}
 use Rattle.xml_markup.specs.Instructions.{isTarget, closeStep, closeEnd, dataEnd, limited, instructionTo, instructionEnd}
 
 -- ---- a target

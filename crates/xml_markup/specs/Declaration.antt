@@ -12,8 +12,8 @@ use Rattle.text_scan.specs.Lists.{stands}
 use Rattle.text_scan.specs.declared.Found.{Found}
 use Rattle.text_scan.specs.declared.Found.the-variants.{At, Nothing}
 use Rattle.xml_markup.specs.AnyCase.{standsAnyCase}
-use Rattle.xml_markup.specs.Names.{isSpace, spaceEnd}
-use Rattle.xml_markup.specs.Values.{valueStart}
+use Rattle.xml_names.specs.Names.{isSpace, spaceEnd}
+use Rattle.xml_names.specs.Values.{valueStart}
 
 -- the document begins with a declaration, well formed or not
 unfoldable pub isDeclaration : List ℕ → Bool

@@ -7,20 +7,11 @@ use Rattle.text_scan.specs.Lists.{begins, runEnd}
 use Rattle.text_scan.specs.Walk.{walk, from}
 use Rattle.text_scan.specs.declared.Found.the-variants.{At, Nothing}
 use Rattle.xml_markup.specs.declared.Scanned.the-variants.{End, Refused}
-use Rattle.xml_markup.specs.Names.{nameEnd}
+use Rattle.xml_names.specs.Names.{nameEnd}
 use Rattle.xml_markup.specs.Comments.{commentStep, commentEnd}
 use Rattle.xml_markup.specs.Instructions.{closeStep, closeEnd, dataEnd, instructionTo, instructionEnd}
-use Rattle.xml_markup.specs.Values.{opened, equalsAt}
+use Rattle.xml_names.specs.Values.{opened, equalsAt}
 use Rattle.xml_markup.specs.Declaration.{isDeclaration, valued, settingEnd, standaloneEnd, closed, versioned, declarationEnd}
-
--- ---- names
-name-parts : nameEnd (text "_a-b.c9/>") 0 ≡ 7
-unfolding runEnd nameEnd
-name-parts = refl
-
-name-digit : nameEnd (text "1a/>") 0 ≡ 0
-unfolding runEnd nameEnd
-name-digit = refl
 
 -- ---- comments
 comment-whole : commentEnd (text "<a><!-- c --></a>") 3 ≡ At 13

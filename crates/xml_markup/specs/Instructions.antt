@@ -17,7 +17,7 @@ use Rattle.xml_markup.specs.declared.Scanned.{Scanned}
 use Rattle.xml_markup.specs.declared.Scanned.the-variants.{End, Refused}
 use Rattle.xml_markup.specs.AnyCase.{standsAnyCase}
 use Rattle.xml_reader.specs.Limits.{nameLimit}
-use Rattle.xml_markup.specs.Names.{isSpace, nameEnd}
+use Rattle.xml_names.specs.Names.{isSpace, nameEnd}
 
 -- the bytes from position i to n are a name that an instruction can have
 abbrev pub isTarget : List ℕ → ℕ → ℕ → Bool

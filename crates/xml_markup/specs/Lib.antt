@@ -1,8 +1,6 @@
-pub mod Names
 pub mod Comments
 pub mod AnyCase
 pub mod Instructions
-pub mod Values
 pub mod Declaration
 pub mod Examples
 pub mod Unique

@@ -1,12 +1,8 @@
-// The pieces of markup that are read over, and what all markup is made of: white space and names.
+// The pieces of markup that are read over: comments, processing instructions, and the XML declaration.
 ghost use mathlib.Core.Path.{_≡_};
-ghost use Rattle.text_scan.specs.Bytes.{lower as small};
-ghost use Rattle.text_scan.specs.Lists.{runFrom};
-ghost use Rattle.xml_markup.specs.Names.{isSpace, isNameStart, isNameChar, spaceEnd, nameEnd};
 ghost use Rattle.xml_markup.specs.Comments.{commentEnd};
 ghost use Rattle.xml_markup.specs.AnyCase.{standsAnyCase};
 ghost use Rattle.xml_markup.specs.Instructions.{isTarget, closeEnd, dataEnd, instructionEnd};
-ghost use Rattle.xml_markup.specs.Values.{valueStart};
 ghost use Rattle.xml_markup.specs.Declaration.{isDeclaration, standsIn, settingEnd, standaloneEnd, declarationEnd};
 use text_scan::Found;
 use xml_reader::Reader;
@@ -15,98 +11,6 @@ use xml_reader::Reader;
 pub enum Scanned {
     End(usize),
     Refused(u32),
-}
-
-pub fn is_space(b: u8) -> bool
-    ensures { λ r. ⌜ r ≡ isSpace b ⌝ }
-{
-    if b < 14 {
-        if b < 9 {
-            return false;
-        }
-        if b < 11 {
-            return true;
-        }
-        return b == 13;
-    }
-    b == 32
-}
-
-// Small letters, which are the most, are asked for first, here and where a name goes on.
-pub fn is_name_start(b: u8) -> bool
-    ensures { λ r. ⌜ r ≡ isNameStart b ⌝ }
-{
-    if 96 < b {
-        return b < 123;
-    }
-    if b < 65 {
-        return b == 58;
-    }
-    if b < 91 {
-        return true;
-    }
-    b == 95
-}
-
-pub fn is_name_char(b: u8) -> bool
-    ensures { λ r. ⌜ r ≡ isNameChar b ⌝ }
-{
-    if 96 < b {
-        return b < 123;
-    }
-    if b < 48 {
-        if b < 45 {
-            return false;
-        }
-        return b < 47;
-    }
-    if b < 59 {
-        return true;
-    }
-    is_name_start(b)
-}
-
-// The place after the white space from `at` on.
-pub fn space_end(s: &[u8], at: usize) -> usize
-    ensures { λ r. ⌜ r ≡ spaceEnd (now (s .entry)) at ⌝ }
-{
-    let mut i = at;
-    while i < s.len() {
-        if is_space(s[i]) {
-            i += 1;
-            continue;
-        }
-        return i;
-    }
-    i
-}
-
-// The place after the bytes of a name from `at` on.
-fn name_chars_end(s: &[u8], at: usize) -> usize
-    ensures { λ r. ⌜ r ≡ runFrom isNameChar (now (s .entry)) at ⌝ }
-{
-    let mut i = at;
-    while i < s.len() {
-        if is_name_char(s[i]) {
-            i += 1;
-            continue;
-        }
-        return i;
-    }
-    i
-}
-
-// The place after the name at `at`, which is `at` where no name starts.
-pub fn name_end(s: &[u8], at: usize) -> usize
-    ensures { λ r. ⌜ r ≡ nameEnd (now (s .entry)) at ⌝ }
-{
-    if s.len() <= at {
-        return at;
-    }
-    if is_name_start(s[at]) {
-        return name_chars_end(s, at);
-    }
-    at
 }
 
 // The place after the comment that begins at `at`.
@@ -134,19 +38,6 @@ pub fn comment_end(s: &[u8], at: usize) -> Found
     Found::Nothing
 }
 
-// A letter A to Z made small, any other byte as it is.
-fn lower(b: u8) -> u8
-    ensures { λ r. ⌜ r ≡ small b ⌝ }
-{
-    if b < 65 {
-        return b;
-    }
-    if b < 91 {
-        return b + 32;
-    }
-    b
-}
-
 // Whether the text t, of small letters, stands at `at`, in any case of its letters.
 fn text_any_case_at(s: &[u8], at: usize, t: &[u8]) -> bool
     ensures { λ r. ⌜ r ≡ standsAnyCase (now (t .entry)) (now (s .entry)) at ⌝ }
@@ -157,7 +48,7 @@ fn text_any_case_at(s: &[u8], at: usize, t: &[u8]) -> bool
         if s.len() <= i {
             return false;
         }
-        if lower(s[i]) != t[j] {
+        if text_scan::lower_case(s[i]) != t[j] {
             return false;
         }
         i += 1;
@@ -207,7 +98,7 @@ fn data_end(s: &[u8], n: usize) -> Found
     if s.len() <= n {
         return Found::Nothing;
     }
-    if is_space(s[n]) {
+    if xml_names::is_space(s[n]) {
         return close_end(s, n);
     }
     if text_scan::text_at(s, n, b"?>") {
@@ -221,7 +112,7 @@ pub fn instruction_end(s: &[u8], at: usize) -> Scanned
     ensures { λ r. ⌜ r ≡ instructionEnd (now (s .entry)) at ⌝ }
 {
     if text_scan::text_at(s, at, b"<?") {
-        let n = name_end(s, at + 2);
+        let n = xml_names::name_end(s, at + 2);
         if is_target(s, at + 2, n) {
             let Found::At(j) = data_end(s, n) else {
                 return Scanned::Refused(7);
@@ -234,25 +125,6 @@ pub fn instruction_end(s: &[u8], at: usize) -> Scanned
         return Scanned::Refused(7);
     }
     Scanned::Refused(7)
-}
-
-// The first byte of the value of a name that ends at `n`, behind `=` and the opening quote.
-pub fn value_start(s: &[u8], n: usize) -> Found
-    ensures { λ r. ⌜ r ≡ valueStart (now (s .entry)) n ⌝ }
-{
-    let e = space_end(s, n);
-    if text_scan::byte(s, e) != 61 {
-        return Found::Nothing;
-    }
-    let q = space_end(s, e + 1);
-    let c = text_scan::byte(s, q);
-    if c == 34 {
-        return Found::At(q + 1);
-    }
-    if c == 39 {
-        return Found::At(q + 1);
-    }
-    Found::Nothing
 }
 
 // Whether the text t stands at `at`, as it is or in any case of its letters.
@@ -269,12 +141,12 @@ fn text_in_at(s: &[u8], at: usize, t: &[u8], any: bool) -> bool
 fn setting_end(s: &[u8], at: usize, name: &[u8], value: &[u8], any: bool) -> usize
     ensures { λ r. ⌜ r ≡ settingEnd any (now (name .entry)) (now (value .entry)) (now (s .entry)) at ⌝ }
 {
-    let n = space_end(s, at);
+    let n = xml_names::space_end(s, at);
     if n == at {
         return at;
     }
     if text_scan::text_at(s, n, name) {
-        let Found::At(v) = value_start(s, n + name.len()) else {
+        let Found::At(v) = xml_names::value_start(s, n + name.len()) else {
             return at;
         };
         if text_in_at(s, v, value, any) {
@@ -307,7 +179,7 @@ pub fn is_declaration(s: &[u8]) -> bool
     if s.len() < 6 {
         return false;
     }
-    if is_space(s[5]) {
+    if xml_names::is_space(s[5]) {
         return text_scan::text_at(s, 0, b"<?xml");
     }
     false
@@ -323,7 +195,7 @@ pub fn declaration_end(s: &[u8]) -> Found
             return Found::Nothing;
         }
         let e = setting_end(s, v, b"encoding", b"utf-8", true);
-        let q = space_end(s, standalone_end(s, e));
+        let q = xml_names::space_end(s, standalone_end(s, e));
         if text_scan::text_at(s, q, b"?>") {
             return Found::At(q + 2);
         }

@@ -13,13 +13,13 @@ use Rattle.text_scan.specs.declared.Found.the-variants.{At, Nothing}
 use Rattle.text_scan.proofs.Tests.{pick-case}
 use Rattle.xml_markup.specs.declared.Scanned.{Scanned as Instructed}
 use Rattle.xml_markup.specs.declared.Scanned.the-variants.{End as Over, Refused as Refusing}
-use Rattle.xml_markup.specs.Names.{spaceEnd}
+use Rattle.xml_names.specs.Names.{spaceEnd}
 use Rattle.xml_markup.specs.Comments.{commentEnd}
 use Rattle.xml_markup.specs.Instructions.{instructionEnd}
 use Rattle.xml_markup.specs.Declaration.{isDeclaration, declarationEnd}
 use Rattle.xml_pieces.specs.declared.Kind.{Kind}
 use Rattle.xml_pieces.specs.declared.Kind.the-variants.{Text, Comment, Instruction, Declaration, Start, Empty, End}
-use Rattle.xml_pieces.specs.declared.Part.the-variants.{After}
+use Rattle.xml_pieces.specs.declared.DocumentPart.the-variants.{After}
 use Rattle.xml_pieces.specs.declared.Scanned.{Scanned}
 use Rattle.xml_pieces.specs.declared.Scanned.the-variants.{Piece, Refused}
 use Rattle.xml_pieces.specs.Pieces.{found, onlySpace, textAt, bangAt, instructed, questionAt, endAt, startAt, markupAt, pieceAt}

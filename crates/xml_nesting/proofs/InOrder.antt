@@ -12,8 +12,8 @@ use lib.ListN.{set}
 use Rattle.text_scan.specs.Choice.{not}
 use Rattle.text_scan.proofs.Tests.{never, and-right, or-left, or-right}
 use Rattle.text_scan.proofs.Within.{inside}
-use Rattle.xml_elements.specs.Elements.{Reading, fresh, row, parentOf, firstOf, afterOf, passed, added, closed}
-use Rattle.xml_elements.specs.Walked.{Sound}
+use Rattle.xml_steps.specs.Reading.{Reading, fresh, row, parentOf, firstOf, afterOf, passed, added, closed}
+use Rattle.xml_steps.specs.Walked.{Sound}
 use Rattle.xml_nesting.proofs.Open.{isOpen, atLevel, open-same, level-same, old-parent, old-first, old-after, new-parent, new-first, new-after, set-parent, set-first, set-after, set-its-after}
 
 pub record InOrder (r : Reading) : Type 0 where

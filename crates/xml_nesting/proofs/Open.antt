@@ -9,7 +9,7 @@ use lib.Dec.{eqb}
 use lib.ListN.{length, getD, set, List·getD-append}
 use lib.Seq.{getD-append-add, getD-set-same, getD-set-other}
 use Rattle.text_scan.specs.Choice.{_or_, _and_, not}
-use Rattle.xml_elements.specs.Elements.{row, parentOf, firstOf, afterOf}
+use Rattle.xml_steps.specs.Reading.{row, parentOf, firstOf, afterOf}
 
 -- the open elements are the innermost one, its parent, and so on
 abbrev pub isOpen : List ℕ → ℕ → ℕ → ℕ → Bool

@@ -13,18 +13,21 @@ use Rattle.text_scan.specs.Turns.{Turn, on, out}
 use Rattle.text_scan.proofs.Turns.{run-keeps}
 use Rattle.text_scan.proofs.Tests.{and-left, and-right, pick-case}
 use Rattle.text_chars.specs.Utf8.{firstBad}
+use Rattle.xml_reader.specs.Limits.{documentLimit, elementsLimit}
 use Rattle.xml_pieces.specs.declared.Kind.{Kind}
 use Rattle.xml_pieces.specs.declared.Kind.the-variants.{Text, Comment, Instruction, Declaration, Start, Empty, End}
-use Rattle.xml_pieces.specs.declared.Part.the-variants.{Inside}
+use Rattle.xml_pieces.specs.declared.DocumentPart.the-variants.{Inside}
 use Rattle.xml_pieces.specs.declared.Scanned.{Scanned}
 use Rattle.xml_pieces.specs.declared.Scanned.the-variants.{Piece, Refused as Refusing}
 use Rattle.xml_pieces.specs.Pieces.{pieceAt}
 use Rattle.xml_pieces.proofs.Within.{Within, piece-within, end-inside}
 use Rattle.xml_elements.specs.declared.Answer.{Answer}
 use Rattle.xml_elements.specs.declared.Answer.the-variants.{Elements, Refused}
-use Rattle.xml_elements.specs.Elements.{Reading, Read, refused, elements, fresh, parentOf, afterOf, passed, added, closed, hasRoom, adding, isNamed, contentFits, closing, partOf, byPiece, atEnd, turn, left, readFrom, elementsOf, Leaves}
-use Rattle.xml_elements.specs.Walked.{Sound}
-use Rattle.xml_elements.proofs.Keeps.{never-on, gone, piece-sound, piece-out, turn-falls}
+use Rattle.xml_steps.specs.Reading.{Reading, Read, refused, elements, fresh, parentOf, afterOf, passed, added, closed, hasRoom, adding, isNamed, contentFits, closing, partOf, byPiece}
+use Rattle.xml_elements.specs.Elements.{atEnd, turn, left, readFrom, elementsOf, ElementsLeft}
+use Rattle.xml_steps.specs.Walked.{Sound}
+use Rattle.xml_steps.proofs.Keeps.{never-on, gone, piece-sound, piece-out}
+use Rattle.xml_elements.proofs.Walks.{turn-falls}
 use Rattle.xml_nesting.specs.Ordered.{Ordered, Filled}
 use Rattle.xml_nesting.proofs.After.{Adds, no-tag-after}
 use Rattle.xml_nesting.proofs.InOrder.{InOrder, fresh-order, passed-order, empty-order, start-order, closed-order}
@@ -105,7 +108,7 @@ turn-kept s r t w e = go (ltb (r .at) (length s)) refl (pieceAt s (r .at) (partO
 -- the rows of a document that is not refused
 pub record Rows (s : List ℕ) (n : ℕ) (rows : List ℕ) : Type 0 where
   pub rooted : 0 < n
-  pub few : n ≤ 16384
+  pub few : n ≤ elementsLimit
   pub wide : length rows ≡ 4 * n
   pub low : (k : ℕ) → getD rows k 0 ≤ length s
   pub ordered : Ordered rows n
@@ -147,7 +150,7 @@ turn-rows s r x w e = go (ltb (r .at) (length s)) e
 read-rows : (s : List ℕ) → ReadRows s (elementsOf s)
 unfolding elementsOf readFrom
 read-rows s =
-    pick-case (ReadRows s) (ltb 1048576 (length s)) _ _ (λ _. tt)
+    pick-case (ReadRows s) (ltb documentLimit (length s)) _ _ (λ _. tt)
     (λ _. pick-case (ReadRows s) (ltb (firstBad s) (length s)) _ _ (λ _. tt)
     (λ _. run-keeps (turn s) (refused 7 (length s)) (left s) (turn-falls s) (Kept (length s)) (ReadRows s) (λ r t w e. turn-kept s r t w e) (λ r x w e. turn-rows s r x w e) fresh (fresh-kept (length s))))
 
@@ -178,7 +181,7 @@ module _ (s rows rest : List ℕ) (n : ℕ) (w : Rows s n rows) where
   front-within : (k : ℕ) → k < n → afterOf (rows ++ rest) k ≤ length s
   front-within k h = rw (same k 3 h (omega arith)) (w .low (4 * k + 3))
 
-filled-by : (s table after : List ℕ) (answer : Answer) (n : ℕ) (x : Read) → ReadRows s x → Leaves x table answer after → answer ≡ Elements n → Filled s after n
+filled-by : (s table after : List ℕ) (answer : Answer) (n : ℕ) (x : Read) → ReadRows s x → ElementsLeft x table answer after → answer ≡ Elements n → Filled s after n
 filled-by s table after answer n (refused m place) w l q =
     absurd (let e = l .answers in let z : _≡_ {A = ℕ} 0 1 = cc in omega arith)
 filled-by s table after answer n (elements m rows) w l q = go (leb (4 * m) (length table)) (sym q ∙ l .answers) (l .leaves)
@@ -189,5 +192,5 @@ filled-by s table after answer n (elements m rows) w l q = go (leb (4 * m) (leng
         rw (f, ← z) (record { rooted = w .rooted; ordered = front-ordered s rows (drop (4 * m) table) m w; within = front-within s rows (drop (4 * m) table) m w })
     go false e f = absurd (let z : _≡_ {A = ℕ} 0 1 = cc in omega arith)
 
-pub read-filled : (s table after : List ℕ) (answer : Answer) (n : ℕ) → Leaves (elementsOf s) table answer after → answer ≡ Elements n → Filled s after n
+pub read-filled : (s table after : List ℕ) (answer : Answer) (n : ℕ) → ElementsLeft (elementsOf s) table answer after → answer ≡ Elements n → Filled s after n
 read-filled s table after answer n l q = filled-by s table after answer n (elementsOf s) (read-rows s) l q

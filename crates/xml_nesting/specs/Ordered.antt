@@ -5,7 +5,7 @@ use Prim.Native.Nat.{ℕ, _/_, _<_, _≤_}
 use mathlib.Core.Path.{_≡_}
 use mathlib.Core.List.{List}
 use lib.ListN.{length}
-use Rattle.xml_elements.specs.Elements.{parentOf, firstOf, afterOf}
+use Rattle.xml_steps.specs.Reading.{parentOf, firstOf, afterOf}
 
 pub record Ordered (rows : List ℕ) (count : ℕ) : Type 0 where
   pub room : count ≤ length rows / 4

@@ -1,33 +1,31 @@
 -- A piece, by the tests and calls in which the code looks.
 -- Assumes nothing.
-use mathlib.Core.Path.{_≡_, refl, sym, _∙_, ap}
+use mathlib.Core.Path.{_≡_}
 use mathlib.Core.Bool.{Bool, true, false}
 use mathlib.Core.List.{List}
 use Prim.Native.Nat.{ℕ}
 use borrow.Author.Tests.{eq-eqb, ne-eqb}
 use lib.Dec.{eqb}
 use lib.ListN.{length, getD}
-use Rattle.text_scan.specs.Choice.{pick, _or_, _and_}
 use Rattle.text_scan.specs.Bytes.{text}
 use Rattle.text_scan.specs.Lists.{stands}
 use Rattle.text_scan.specs.declared.Found.{Found}
 use Rattle.text_scan.specs.declared.Found.the-variants.{At, Nothing}
-use Rattle.text_scan.proofs.Tests.{or-true}
 use Rattle.xml_references.specs.Runs.{textEnd}
 use Rattle.xml_markup.specs.declared.Scanned.{Scanned as Instructed}
 use Rattle.xml_markup.specs.declared.Scanned.the-variants.{End as Over, Refused as Refusing}
-use Rattle.xml_markup.specs.Names.{spaceEnd}
+use Rattle.xml_names.specs.Names.{spaceEnd}
 use Rattle.xml_markup.specs.Comments.{commentEnd}
 use Rattle.xml_markup.specs.Instructions.{instructionEnd}
 use Rattle.xml_markup.specs.Declaration.{isDeclaration, declarationEnd}
-use Rattle.xml_tags.specs.declared.Tag.{Tag}
-use Rattle.xml_tags.specs.declared.Tag.the-variants.{Start as Opens, Empty as Stands, Refused as Malformed}
+use Rattle.xml_attributes.specs.declared.Tag.{Tag}
+use Rattle.xml_attributes.specs.declared.Tag.the-variants.{Start as Opens, Empty as Stands, Refused as Malformed}
 use Rattle.xml_tags.specs.Tags.{tagAt}
 use Rattle.xml_tags.specs.EndTags.{endTagEnd}
 use Rattle.xml_pieces.specs.declared.Kind.{Kind}
 use Rattle.xml_pieces.specs.declared.Kind.the-variants.{Text, Comment, Instruction, Declaration, Start, Empty, End}
-use Rattle.xml_pieces.specs.declared.Part.{Part}
-use Rattle.xml_pieces.specs.declared.Part.the-variants.{Before, Inside, After}
+use Rattle.xml_pieces.specs.declared.DocumentPart.{DocumentPart}
+use Rattle.xml_pieces.specs.declared.DocumentPart.the-variants.{Before, Inside, After}
 use Rattle.xml_pieces.specs.declared.Scanned.{Scanned}
 use Rattle.xml_pieces.specs.declared.Scanned.the-variants.{Piece, Refused}
 use Rattle.xml_pieces.specs.Pieces.{found, onlySpace, textAt, bangAt, instructed, questionAt, endAt, tagged, startAt, markupAt, pieceAt}
@@ -69,7 +67,7 @@ module _ (s : List ℕ) (j : ℕ) where
     pub space-to-text : (j ≡ length s → ⊥) → (b ≡ 60 → ⊥) → Refused 7 ≡ onlySpace s j
     space-to-text n f = rw (ne-eqb j (length s) n, ← e, ne-eqb b 60 f)
 
-module _ (s : List ℕ) (i : ℕ) (part : Part) (r : Scanned) where
+module _ (s : List ℕ) (i : ℕ) (part : DocumentPart) (r : Scanned) where
   pub text-before : (j : ℕ) → part ≡ Before → j ≡ spaceEnd s i → r ≡ onlySpace s j → r ≡ textAt s i part
   unfolding textAt
   text-before j p e f = rw (p, ← e) f
@@ -95,7 +93,7 @@ module _ (s : List ℕ) (i : ℕ) (part : Part) (r : Scanned) where
   unfolding startAt
   start-inside x p e f = rw (p, ← e) f
 
-module _ (s : List ℕ) (i : ℕ) (part : Part) where
+module _ (s : List ℕ) (i : ℕ) (part : DocumentPart) where
   pub end-before : part ≡ Before → Refused 7 ≡ endAt s i part
   unfolding endAt
   end-before p = rw p
@@ -143,7 +141,7 @@ module _ (s : List ℕ) (i : ℕ) (r : Scanned) where
     a-first-instruction x f e g = rw (eq-eqb i 0 z, ← d, f, ← e) g
 
 -- ---- the whole
-module _ (s : List ℕ) (i : ℕ) (part : Part) (r : Scanned) (t : Bool) (e : t ≡ stands (text "<!") s i) where
+module _ (s : List ℕ) (i : ℕ) (part : DocumentPart) (r : Scanned) (t : Bool) (e : t ≡ stands (text "<!") s i) where
   pub by-bang : t ≡ true → r ≡ bangAt s i → r ≡ markupAt s i part
   unfolding markupAt
   by-bang f g = rw (← e, f) g
@@ -162,7 +160,7 @@ module _ (s : List ℕ) (i : ℕ) (part : Part) (r : Scanned) (t : Bool) (e : t 
       unfolding markupAt
       by-start h k = rw (← e, f, ← q, g, ← z, h) k
 
-module _ (s : List ℕ) (i : ℕ) (part : Part) (r : Scanned) (b : ℕ) (e : b ≡ getD s i 0) where
+module _ (s : List ℕ) (i : ℕ) (part : DocumentPart) (r : Scanned) (b : ℕ) (e : b ≡ getD s i 0) where
   pub by-markup : b ≡ 60 → r ≡ markupAt s i part → r ≡ pieceAt s i part
   unfolding pieceAt
   by-markup f g = rw (← e, eq-eqb b 60 f) g

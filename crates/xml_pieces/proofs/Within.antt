@@ -1,10 +1,9 @@
 -- Where a piece ends: behind its start, and within. Each kind of piece has that bound in its own crate.
 -- Assumes nothing.
-use mathlib.Core.Path.{_≡_, refl, sym, _∙_, ap, subst}
+use mathlib.Core.Path.{_≡_, refl, subst}
 use mathlib.Core.Bool.{Bool, true, false}
 use mathlib.Core.List.{List}
 use Prim.Native.Nat.{ℕ, _+_, _<_, _≤_}
-use Prim.Native.Char.{code}
 use native.Mathlib.Omega.{arith}
 use borrow.Author.Tests.{eqb-true, eqb-false, ltb-true}
 use lib.Dec.{eqb, ltb}
@@ -21,24 +20,24 @@ use Rattle.xml_references.specs.Runs.{textEnd}
 use Rattle.xml_references.proofs.Bounds.{text-ahead, text-inside, text-ended}
 use Rattle.xml_markup.specs.declared.Scanned.{Scanned as Instructed}
 use Rattle.xml_markup.specs.declared.Scanned.the-variants.{End as Over, Refused as Refusing}
-use Rattle.xml_markup.specs.Names.{isSpace, spaceEnd}
+use Rattle.xml_names.specs.Names.{isSpace, spaceEnd}
 use Rattle.xml_markup.specs.Comments.{commentEnd}
 use Rattle.xml_markup.specs.Instructions.{instructionEnd}
 use Rattle.xml_markup.specs.Declaration.{isDeclaration, declarationEnd}
 use Rattle.xml_markup.proofs.Comments.{comment-within}
 use Rattle.xml_markup.proofs.Instructions.{ScannedWithin, instruction-within}
 use Rattle.xml_markup.proofs.Declaration.{declaration-within}
-use Rattle.xml_tags.specs.declared.Tag.{Tag}
-use Rattle.xml_tags.specs.declared.Tag.the-variants.{Start as Opens, Empty as Stands, Refused as Malformed}
-use Rattle.xml_tags.specs.Names.{elementEnd}
+use Rattle.xml_attributes.specs.declared.Tag.{Tag}
+use Rattle.xml_attributes.specs.declared.Tag.the-variants.{Start as Opens, Empty as Stands, Refused as Malformed}
+use Rattle.xml_names.specs.ElementNames.{elementEnd}
 use Rattle.xml_tags.specs.Tags.{tagAt}
 use Rattle.xml_tags.specs.EndTags.{closedBy, endTagTo, endTagEnd}
 use Rattle.xml_tags.proofs.Bounds.{TagWithin, tag-within}
 use Rattle.xml_tags.proofs.EndTags.{end-tag-within}
 use Rattle.xml_pieces.specs.declared.Kind.{Kind}
 use Rattle.xml_pieces.specs.declared.Kind.the-variants.{Text, Comment, Instruction, Declaration, Start, Empty, End}
-use Rattle.xml_pieces.specs.declared.Part.{Part}
-use Rattle.xml_pieces.specs.declared.Part.the-variants.{Before, Inside, After}
+use Rattle.xml_pieces.specs.declared.DocumentPart.{DocumentPart}
+use Rattle.xml_pieces.specs.declared.DocumentPart.the-variants.{Before, Inside, After}
 use Rattle.xml_pieces.specs.declared.Scanned.{Scanned}
 use Rattle.xml_pieces.specs.declared.Scanned.the-variants.{Piece, Refused}
 use Rattle.xml_pieces.specs.Pieces.{found, onlySpace, textAt, bangAt, instructed, questionAt, endAt, tagged, startAt, markupAt, pieceAt}
@@ -90,7 +89,7 @@ module _ (s : List ℕ) (i : ℕ) (h : i < length s) (b : getD s i 0 ≡ 60 → 
       (behind-start j (text-ahead s i (omega arith) j e) (text-ended s i (omega arith) j e), text-inside s i (omega arith) j e)
   run-within Nothing e = tt
 
-  text-within : (p : Part) → Within i (length s) (textAt s i p)
+  text-within : (p : DocumentPart) → Within i (length s) (textAt s i p)
   unfolding textAt
   text-within Before = space-within
   text-within Inside = run-within (textEnd s i) refl
@@ -114,32 +113,32 @@ module _ (s : List ℕ) (i : ℕ) where
       first true q e = rw (eqb-true i 0 q) (found-within 0 (length s) Declaration (declarationEnd s) (declaration-within s))
       first false q e = absurd (let z : _≡_ {A = ℕ} 0 1 = cc in omega arith)
 
-  end-within : (p : Part) → Within i (length s) (endAt s i p)
+  end-within : (p : DocumentPart) → Within i (length s) (endAt s i p)
   unfolding endAt
   end-within Before = tt
   end-within Inside = found-within i (length s) End (endTagEnd s i) (end-tag-within s i)
   end-within After = tt
 
-  start-within : (p : Part) → Within i (length s) (startAt s i p)
+  start-within : (p : DocumentPart) → Within i (length s) (startAt s i p)
   unfolding startAt
   start-within Before = tagged-within i (length s) (tagAt s i) (tag-within s i)
   start-within Inside = tagged-within i (length s) (tagAt s i) (tag-within s i)
   start-within After = tt
 
-  markup-within : (p : Part) → Within i (length s) (markupAt s i p)
+  markup-within : (p : DocumentPart) → Within i (length s) (markupAt s i p)
   unfolding markupAt
   markup-within p =
       pick-case (Within i (length s)) (stands (text "<!") s i) _ _ (λ _. bang-within)
       (λ _. pick-case (Within i (length s)) (stands (text "<?") s i) _ _ (λ _. question-within)
       (λ _. pick-case (Within i (length s)) (stands (text "</") s i) _ _ (λ _. end-within p) (λ _. start-within p)))
 
-pub piece-within : (s : List ℕ) (i : ℕ) (p : Part) → i < length s → Within i (length s) (pieceAt s i p)
+pub piece-within : (s : List ℕ) (i : ℕ) (p : DocumentPart) → i < length s → Within i (length s) (pieceAt s i p)
 unfolding pieceAt
 piece-within s i p h =
     pick-case (Within i (length s)) (eqb (getD s i 0) 60) _ _ (λ _. markup-within s i p) (λ e. text-within s i h (eqb-false (getD s i 0) 60 e) p)
 
 -- ---- an end tag stands inside the root only, and has its two first bytes
-abbrev Ends : Part → ℕ → Scanned → Type 0
+abbrev Ends : DocumentPart → ℕ → Scanned → Type 0
 Ends p i (Piece Text j) = Unit {0}
 Ends p i (Piece Comment j) = Unit {0}
 Ends p i (Piece Instruction j) = Unit {0}
@@ -161,7 +160,7 @@ end-tag-behind s i =
     (λ _. omega (arith, ltb-true (i + 2) (elementEnd s (i + 2)) (and-right (stands (text "</") s i) _ e), run-least isSpace s (elementEnd s (i + 2)))) (λ _. tt))
     (λ _. tt)
 
-module _ (p : Part) (s : List ℕ) (i : ℕ) where
+module _ (p : DocumentPart) (s : List ℕ) (i : ℕ) where
   space-ends : (j : ℕ) → Ends p i (onlySpace s j)
   space-ends j = pick-case (Ends p i) (eqb j (length s) or eqb (getD s j 0) 60) _ _ (λ _. tt) (λ _. tt)
 
@@ -201,25 +200,25 @@ end-inside-ends : (s : List ℕ) (i : ℕ) (x : Found) → Behind i x → Ends I
 end-inside-ends s i (At j) h = (refl, h)
 end-inside-ends s i Nothing h = tt
 
-end-ends : (s : List ℕ) (i : ℕ) (p : Part) → Ends p i (endAt s i p)
+end-ends : (s : List ℕ) (i : ℕ) (p : DocumentPart) → Ends p i (endAt s i p)
 unfolding endAt
 end-ends s i Before = tt
 end-ends s i Inside = end-inside-ends s i (endTagEnd s i) (end-tag-behind s i)
 end-ends s i After = tt
 
-start-ends : (s : List ℕ) (i : ℕ) (p : Part) → Ends p i (startAt s i p)
+start-ends : (s : List ℕ) (i : ℕ) (p : DocumentPart) → Ends p i (startAt s i p)
 unfolding startAt
 start-ends s i Before = tag-ends Before s i (tagAt s i)
 start-ends s i Inside = tag-ends Inside s i (tagAt s i)
 start-ends s i After = tt
 
-text-at-ends : (s : List ℕ) (i : ℕ) (p : Part) → Ends p i (textAt s i p)
+text-at-ends : (s : List ℕ) (i : ℕ) (p : DocumentPart) → Ends p i (textAt s i p)
 unfolding textAt
 text-at-ends s i Before = space-ends Before s i (spaceEnd s i)
 text-at-ends s i Inside = text-ends Inside s i (textEnd s i)
 text-at-ends s i After = space-ends After s i (spaceEnd s i)
 
-piece-ends : (s : List ℕ) (i : ℕ) (p : Part) → Ends p i (pieceAt s i p)
+piece-ends : (s : List ℕ) (i : ℕ) (p : DocumentPart) → Ends p i (pieceAt s i p)
 unfolding pieceAt markupAt
 piece-ends s i p =
     pick-case (Ends p i) (eqb (getD s i 0) 60) _ _
@@ -228,5 +227,5 @@ piece-ends s i p =
     (λ _. pick-case (Ends p i) (stands (text "</") s i) _ _ (λ _. end-ends s i p) (λ _. start-ends s i p))))
     (λ _. text-at-ends s i p)
 
-pub end-inside : (s : List ℕ) (i j : ℕ) (p : Part) → pieceAt s i p ≡ Piece End j → (p ≡ Inside) × (i + 2 ≤ j)
+pub end-inside : (s : List ℕ) (i j : ℕ) (p : DocumentPart) → pieceAt s i p ≡ Piece End j → (p ≡ Inside) × (i + 2 ≤ j)
 end-inside s i j p e = subst (Ends p i) e (piece-ends s i p)

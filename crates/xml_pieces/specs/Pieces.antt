@@ -14,18 +14,18 @@ use Rattle.text_scan.specs.declared.Found.the-variants.{At, Nothing}
 use Rattle.xml_references.specs.Runs.{textEnd}
 use Rattle.xml_markup.specs.declared.Scanned.{Scanned as Instructed}
 use Rattle.xml_markup.specs.declared.Scanned.the-variants.{End as Over, Refused as Refusing}
-use Rattle.xml_markup.specs.Names.{spaceEnd, nameEnd}
+use Rattle.xml_names.specs.Names.{spaceEnd, nameEnd}
 use Rattle.xml_markup.specs.Comments.{commentEnd}
 use Rattle.xml_markup.specs.Instructions.{instructionEnd}
 use Rattle.xml_markup.specs.Declaration.{isDeclaration, declarationEnd}
-use Rattle.xml_tags.specs.declared.Tag.{Tag}
-use Rattle.xml_tags.specs.declared.Tag.the-variants.{Start as Opens, Empty as Stands, Refused as Malformed}
+use Rattle.xml_attributes.specs.declared.Tag.{Tag}
+use Rattle.xml_attributes.specs.declared.Tag.the-variants.{Start as Opens, Empty as Stands, Refused as Malformed}
 use Rattle.xml_tags.specs.Tags.{tagAt}
 use Rattle.xml_tags.specs.EndTags.{endTagEnd}
 use Rattle.xml_pieces.specs.declared.Kind.{Kind}
 use Rattle.xml_pieces.specs.declared.Kind.the-variants.{Text, Comment, Instruction, Declaration, Start, Empty, End}
-use Rattle.xml_pieces.specs.declared.Part.{Part}
-use Rattle.xml_pieces.specs.declared.Part.the-variants.{Before, Inside, After}
+use Rattle.xml_pieces.specs.declared.DocumentPart.{DocumentPart}
+use Rattle.xml_pieces.specs.declared.DocumentPart.the-variants.{Before, Inside, After}
 use Rattle.xml_pieces.specs.declared.Scanned.{Scanned}
 use Rattle.xml_pieces.specs.declared.Scanned.the-variants.{Piece, Refused}
 
@@ -42,7 +42,7 @@ found kind Nothing = Refused 7
 abbrev pub onlySpace : List ℕ → ℕ → Scanned
 onlySpace s j = pick (eqb j (length s) or eqb (getD s j 0) (code "<")) (Piece Text j) (Refused 7)
 
-unfoldable pub textAt : List ℕ → ℕ → Part → Scanned
+unfoldable pub textAt : List ℕ → ℕ → DocumentPart → Scanned
 textAt s i Before = onlySpace s (spaceEnd s i)
 textAt s i Inside = found Text (textEnd s i)
 textAt s i After = onlySpace s (spaceEnd s i)
@@ -63,7 +63,7 @@ questionAt s i =
     pick (eqb i 0 and isDeclaration s) (found Declaration (declarationEnd s)) (instructed (instructionEnd s i))
 
 -- "</": an end tag can stand inside the root only
-unfoldable pub endAt : List ℕ → ℕ → Part → Scanned
+unfoldable pub endAt : List ℕ → ℕ → DocumentPart → Scanned
 endAt s i Before = Refused 7
 endAt s i Inside = found End (endTagEnd s i)
 endAt s i After = Refused 7
@@ -74,17 +74,17 @@ tagged (Opens after) = Piece Start after
 tagged (Stands after) = Piece Empty after
 tagged (Malformed n) = Refused n
 
-unfoldable pub startAt : List ℕ → ℕ → Part → Scanned
+unfoldable pub startAt : List ℕ → ℕ → DocumentPart → Scanned
 startAt s i Before = tagged (tagAt s i)
 startAt s i Inside = tagged (tagAt s i)
 startAt s i After = Refused 7
 
-unfoldable pub markupAt : List ℕ → ℕ → Part → Scanned
+unfoldable pub markupAt : List ℕ → ℕ → DocumentPart → Scanned
 markupAt s i part =
     pick (stands (text "<!") s i) (bangAt s i)
     (pick (stands (text "<?") s i) (questionAt s i)
     (pick (stands (text "</") s i) (endAt s i part) (startAt s i part)))
 
 -- the piece that starts at i, in a part of the document
-unfoldable pub pieceAt : List ℕ → ℕ → Part → Scanned
+unfoldable pub pieceAt : List ℕ → ℕ → DocumentPart → Scanned
 pieceAt s i part = pick (eqb (getD s i 0) (code "<")) (markupAt s i part) (textAt s i part)

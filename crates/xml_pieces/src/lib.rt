@@ -14,7 +14,7 @@ pub enum Kind {
 }
 
 // The part of the document in which a piece stands: before the root, inside it or after it.
-pub enum Part {
+pub enum DocumentPart {
     Before,
     Inside,
     After,
@@ -49,13 +49,13 @@ fn only_space(s: &[u8], j: usize) -> Scanned
 }
 
 // A run without `<`.
-fn text(s: &[u8], at: usize, part: Part) -> Scanned
+fn text(s: &[u8], at: usize, part: DocumentPart) -> Scanned
     ensures { λ r. ⌜ r ≡ textAt (now (s .entry)) at part ⌝ }
 {
     match part {
-        Part::Before => only_space(s, xml_markup::space_end(s, at)),
-        Part::Inside => found_as(Kind::Text, xml_references::text_end(s, at)),
-        Part::After => only_space(s, xml_markup::space_end(s, at)),
+        DocumentPart::Before => only_space(s, xml_names::space_end(s, at)),
+        DocumentPart::Inside => found_as(Kind::Text, xml_references::text_end(s, at)),
+        DocumentPart::After => only_space(s, xml_names::space_end(s, at)),
     }
 }
 
@@ -98,39 +98,39 @@ fn question(s: &[u8], at: usize) -> Scanned
 }
 
 // A piece that begins `</`.
-fn end_tag(s: &[u8], at: usize, part: Part) -> Scanned
+fn end_tag(s: &[u8], at: usize, part: DocumentPart) -> Scanned
     ensures { λ r. ⌜ r ≡ endAt (now (s .entry)) at part ⌝ }
 {
     match part {
-        Part::Before => Scanned::Refused(7),
-        Part::Inside => found_as(Kind::End, xml_tags::end_tag_end(s, at)),
-        Part::After => Scanned::Refused(7),
+        DocumentPart::Before => Scanned::Refused(7),
+        DocumentPart::Inside => found_as(Kind::End, xml_tags::end_tag_end(s, at)),
+        DocumentPart::After => Scanned::Refused(7),
     }
 }
 
-fn tag(got: xml_tags::Tag) -> Scanned
+fn tag(got: xml_attributes::Tag) -> Scanned
     ensures { λ r. ⌜ r ≡ tagged got ⌝ }
 {
     match got {
-        xml_tags::Tag::Start(after) => Scanned::Piece(Kind::Start, after),
-        xml_tags::Tag::Empty(after) => Scanned::Piece(Kind::Empty, after),
-        xml_tags::Tag::Refused(number) => Scanned::Refused(number),
+        xml_attributes::Tag::Start(after) => Scanned::Piece(Kind::Start, after),
+        xml_attributes::Tag::Empty(after) => Scanned::Piece(Kind::Empty, after),
+        xml_attributes::Tag::Refused(number) => Scanned::Refused(number),
     }
 }
 
 // A start or an empty-element tag.
-fn start_tag(s: &[u8], at: usize, part: Part) -> Scanned
+fn start_tag(s: &[u8], at: usize, part: DocumentPart) -> Scanned
     ensures { λ r. ⌜ r ≡ startAt (now (s .entry)) at part ⌝ }
 {
     match part {
-        Part::Before => tag(xml_tags::tag_at(s, at)),
-        Part::Inside => tag(xml_tags::tag_at(s, at)),
-        Part::After => Scanned::Refused(7),
+        DocumentPart::Before => tag(xml_tags::tag_at(s, at)),
+        DocumentPart::Inside => tag(xml_tags::tag_at(s, at)),
+        DocumentPart::After => Scanned::Refused(7),
     }
 }
 
 // A piece that begins `<`.
-fn markup_piece(s: &[u8], at: usize, part: Part) -> Scanned
+fn markup_piece(s: &[u8], at: usize, part: DocumentPart) -> Scanned
     ensures { λ r. ⌜ r ≡ markupAt (now (s .entry)) at part ⌝ }
 {
     if text_scan::text_at(s, at, b"<!") {
@@ -146,7 +146,7 @@ fn markup_piece(s: &[u8], at: usize, part: Part) -> Scanned
 }
 
 // The piece that starts at `at`.
-pub fn piece(s: &[u8], at: usize, part: Part) -> Scanned
+pub fn piece(s: &[u8], at: usize, part: DocumentPart) -> Scanned
     ensures { λ r. ⌜ r ≡ pieceAt (now (s .entry)) at part ⌝ }
 {
     if text_scan::byte(s, at) == 60 {

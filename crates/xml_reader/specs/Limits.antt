@@ -25,3 +25,14 @@ nameLimit = 64
 
 abbrev pub valueLimit : ℕ
 valueLimit = 4096
+
+-- bytes of scratch that the check and the value reader ask for, which is room for one value
+abbrev pub scratchLimit : ℕ
+scratchLimit = 4096
+
+-- rows of a section of a tables file, and bytes of a row before its line feed
+abbrev pub rowsLimit : ℕ
+rowsLimit = 65535
+
+abbrev pub rowLimit : ℕ
+rowLimit = 4096

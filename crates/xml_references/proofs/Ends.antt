@@ -12,22 +12,17 @@ use mir.Val.{Fits}
 use mir.Syntax.{w64}
 use Rattle.text_scan.specs.Bytes.{text}
 use Rattle.text_scan.specs.Lists.{begins, stands}
-use Rattle.text_scan.specs.Walk.{Next, skip, done, from}
+use Rattle.text_scan.specs.Walk.{Next, done, from}
 use Rattle.text_scan.specs.declared.Found.{Found}
 use Rattle.text_scan.specs.declared.Found.the-variants.{At, Nothing}
 use Rattle.text_scan.proofs.Within.{drop-here}
 use Rattle.text_scan.proofs.Walk as walks
+use Rattle.text_scan.proofs.Walk.{further}
 use Rattle.xml_references.specs.declared.Reference.{Reference}
 use Rattle.xml_references.specs.declared.Reference.the-variants.{Char, Nothing as NoReference}
 use Rattle.xml_references.specs.References.{referenceAt}
 use Rattle.xml_references.specs.Runs.{behind, valueStep, valueEnd, textStep, textEnd}
 use Rattle.xml_references.proofs.Widths.{reference-least, reference-fits}
-
--- ---- steps of any walk
-further : (f : ℕ → Next Found) (e : Found) (n i : ℕ) → i < n → f i ≡ skip 0 → from f e n i ≡ from f e n (i + 1)
-further f e n i h q =
-    let a : i + 1 + 0 ≡ i + 1 = omega arith in
-    rw a at (walks.goes f e n i 0 (omega arith) q)
 
 module _ (s : List ℕ) (i w c : ℕ) (x : Reference) (ex : x ≡ referenceAt s i) (is : x ≡ Char w c) where
   past : (f : ℕ → Next Found) (e : Found) → f i ≡ behind (referenceAt s i) → from f e (length s) i ≡ from f e (length s) (i + w)

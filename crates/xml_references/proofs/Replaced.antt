@@ -14,7 +14,7 @@ use Rattle.text_scan.specs.Lists.{every, begins}
 use Rattle.text_scan.proofs.Tests.{never, and-right}
 use Rattle.text_scan.proofs.Lists.{Every, every-goes, every-stops}
 use Rattle.text_scan.proofs.Within.{drop-here}
-use Rattle.text_chars.specs.Encode.{encoded}
+use Rattle.text_encode.specs.Encode.{encoded}
 use Rattle.xml_references.specs.declared.Reference.{Reference}
 use Rattle.xml_references.specs.declared.Reference.the-variants.{Char, Nothing}
 use Rattle.xml_references.specs.References.{named, referenceOf, referenceAt}

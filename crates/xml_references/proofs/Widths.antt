@@ -15,8 +15,8 @@ use Rattle.text_scan.specs.Lists.{begins}
 use Rattle.text_scan.proofs.Tests.{pick-case, and-left, and-right, and-false}
 use Rattle.text_scan.proofs.Lists.{text-fits}
 use Rattle.text_chars.specs.Utf8.{isXmlChar}
-use Rattle.text_chars.specs.Encode.{encoded}
-use Rattle.text_chars.proofs.Forms.{encoded-most}
+use Rattle.text_encode.specs.Encode.{encoded}
+use Rattle.text_encode.proofs.Forms.{encoded-most}
 use Rattle.xml_references.specs.declared.Reference.{Reference}
 use Rattle.xml_references.specs.declared.Reference.the-variants.{Char, Nothing}
 use Rattle.xml_references.specs.References.{digitValue, number, Named, names, named, referenceOf, referenceAt}

@@ -9,8 +9,8 @@ use lib.ListN.{length, drop, getD, set, length-append, length-set, drop-of-lengt
 use lib.Seq.{sets, length-sets, sets-eq}
 use mir.Val.{Fits}
 use mir.Syntax.{w64}
-use Rattle.text_chars.specs.Encode.{encoded}
-use Rattle.text_chars.proofs.Forms.{char-most}
+use Rattle.text_encode.specs.Encode.{encoded}
+use Rattle.text_chars.proofs.Chars.{char-most}
 use Rattle.xml_references.specs.declared.Reference.{Reference}
 use Rattle.xml_references.specs.declared.Reference.the-variants.{Char, Nothing}
 use Rattle.xml_references.specs.References.{referenceAt}

@@ -7,7 +7,7 @@ use mathlib.Core.List.{List, [], _∷_, _++_}
 use lib.Dec.{eqb}
 use lib.ListN.{take, drop}
 use Rattle.text_scan.specs.Choice.{not}
-use Rattle.text_chars.specs.Encode.{encoded}
+use Rattle.text_encode.specs.Encode.{encoded}
 use Rattle.xml_references.specs.declared.Reference.the-variants.{Char, Nothing}
 use Rattle.xml_references.specs.References.{referenceOf}
 

@@ -8,7 +8,7 @@ use Rattle.text_scan.specs.Lists.{begins}
 use Rattle.text_scan.specs.Walk.{walk, from}
 use Rattle.text_scan.specs.declared.Found.the-variants.{At, Nothing}
 use Rattle.text_chars.specs.Utf8.{isXmlChar}
-use Rattle.text_chars.specs.Encode.{encoded}
+use Rattle.text_encode.specs.Encode.{encoded}
 use Rattle.xml_references.specs.declared.Reference.the-variants.{Char, Nothing as NoReference}
 use Rattle.xml_references.specs.References.{digitValue, number, named, referenceOf, referenceAt}
 use Rattle.xml_references.specs.Runs.{valueStep, valueEnd, textStep, textEnd}

@@ -5,10 +5,10 @@ ghost use mathlib.Core.List.{_++_};
 ghost use lib.ListN.{length, drop};
 ghost use lib.Seq.{sets};
 ghost use Rattle.text_scan.specs.Bytes.{text};
-ghost use Rattle.text_scan.specs.Lists.{every, stands};
+ghost use Rattle.text_scan.specs.Lists.{stands};
 ghost use Rattle.xml_references.specs.References.{digitValue, number, names, named, referenceAt};
 ghost use Rattle.xml_references.specs.Runs.{valueEnd, textEnd};
-ghost use Rattle.xml_references.specs.Decoded.{isPlain, replaced, decoded};
+ghost use Rattle.xml_references.specs.Decoded.{replaced, decoded};
 use text_scan::Found;
 
 // The character that a reference stands for, with the reference's width in bytes, where one stands.
@@ -167,20 +167,6 @@ pub fn text_end(s: &[u8], at: usize) -> Found
     Found::At(s.len())
 }
 
-// Whether no byte begins a reference, so that the raw bytes say themselves.
-pub fn plain(raw: &[u8]) -> bool
-    ensures { λ r. ⌜ r ≡ every isPlain (now (raw .entry)) ⌝ }
-{
-    let mut i = 0;
-    while i < raw.len() {
-        if raw[i] == b'&' {
-            return false;
-        }
-        i += 1;
-    }
-    true
-}
-
 // Stores what the raw bytes say from `at` on, and answers how many bytes that is.
 pub fn decode_at(raw: &[u8], out: &mut [u8], at: usize) -> usize
     requires { ⌜ at + length (now raw) ≤ length (now out) ⌝ }
@@ -202,7 +188,7 @@ pub fn decode_at(raw: &[u8], out: &mut [u8], at: usize) -> usize
             i += 1;
             continue;
         };
-        n += text_chars::encode(c, out, n);
+        n += text_encode::encode(c, out, n);
         i += w;
     }
     n - at

@@ -14,20 +14,21 @@ use Rattle.text_scan.specs.Lists.{stands}
 use Rattle.text_scan.proofs.Tests.{pick-case}
 use Rattle.text_scan.proofs.Within.{there}
 use Rattle.text_scan.proofs.Lists.{text-fits}
-use Rattle.xml_markup.specs.Names.{spaceEnd}
-use Rattle.xml_markup.proofs.Names.{space-least}
-use Rattle.xml_tags.specs.declared.Attribute.{Attribute}
-use Rattle.xml_tags.specs.declared.Attribute.the-variants.{At, Nothing}
-use Rattle.xml_tags.specs.declared.Part.{Part}
-use Rattle.xml_tags.specs.declared.Part.the-variants.{Read, Ended}
-use Rattle.xml_tags.specs.declared.Tag.{Tag}
-use Rattle.xml_tags.specs.declared.Tag.the-variants.{Start, Empty, Refused}
-use Rattle.xml_tags.specs.Names.{elementEnd}
-use Rattle.xml_tags.specs.Attributes.{attributeAt}
-use Rattle.xml_tags.specs.Rows.{Piece, holds, ends, items, ending}
-use Rattle.xml_tags.specs.Tags.{readAt, partTo, partAt, inRow, pieceAt, attributes, repeated, pastLimit, isRefused, judged, tagTo, tagAt}
-use Rattle.xml_tags.proofs.Names.{element-least}
-use Rattle.xml_tags.proofs.Rows.{row-keeps}
+use Rattle.xml_names.specs.Names.{spaceEnd}
+use Rattle.xml_names.proofs.Names.{space-least}
+use Rattle.xml_attributes.specs.declared.Attribute.{Attribute}
+use Rattle.xml_attributes.specs.declared.Attribute.the-variants.{At, Nothing}
+use Rattle.xml_attributes.specs.declared.TagPart.{TagPart}
+use Rattle.xml_attributes.specs.declared.TagPart.the-variants.{Read, Ended}
+use Rattle.xml_attributes.specs.declared.Tag.{Tag}
+use Rattle.xml_attributes.specs.declared.Tag.the-variants.{Start, Empty, Refused}
+use Rattle.xml_names.specs.ElementNames.{elementEnd}
+use Rattle.xml_attributes.specs.Attributes.{attributeAt}
+use Rattle.xml_attributes.specs.Rows.{Piece, holds, ends, items, ending}
+use Rattle.xml_attributes.specs.Parts.{readAt, partTo, partAt, inRow, pieceAt, attributes, repeated}
+use Rattle.xml_tags.specs.Tags.{pastLimit, isRefused, tagAnswer, tagTo, tagAt}
+use Rattle.xml_names.proofs.ElementNames.{element-least}
+use Rattle.xml_attributes.proofs.Rows.{row-keeps}
 
 abbrev pub TagWithin : ℕ → ℕ → Tag → Type 0
 TagWithin at m (Start j) = (at < j) × (j ≤ m)
@@ -35,7 +36,7 @@ TagWithin at m (Empty j) = (at < j) × (j ≤ m)
 TagWithin at m (Refused k) = Unit {0}
 
 -- the same of a part and of a piece that ends a row
-abbrev PartWithin : ℕ → ℕ → Part → Type 0
+abbrev PartWithin : ℕ → ℕ → TagPart → Type 0
 PartWithin at m (Read b n v e) = Unit {0}
 PartWithin at m (Ended t) = TagWithin at m t
 
@@ -58,7 +59,7 @@ module _ (s : List ℕ) (at : ℕ) where
       (λ e. omega (arith, space-least s i, text-fits (text "/>") s j (omega arith) e))
       (λ _. pick-case (PartWithin at (length s)) (ltb i j) _ _ (λ _. read-within j (attributeAt s j)) (λ _. tt)))
 
-  in-row-within : (i : ℕ) (x : Part) → PartWithin at (length s) x → PieceWithin at (length s) (inRow i x)
+  in-row-within : (i : ℕ) (x : TagPart) → PartWithin at (length s) x → PieceWithin at (length s) (inRow i x)
   in-row-within i (Read b n v e) w = tt
   in-row-within i (Ended t) w = w
 
@@ -70,8 +71,8 @@ module _ (s : List ℕ) (at : ℕ) where
   unfolding attributes
   ending-within n h = row-keeps (pieceAt s) (Refused 7) (TagWithin at (length s)) at (length s) piece-within tt n h
 
-  judged-within : (m : ℕ) (bs : List ℕ) (t : Tag) → TagWithin at (length s) t → TagWithin at (length s) (judged s m bs t)
-  unfolding judged
+  judged-within : (m : ℕ) (bs : List ℕ) (t : Tag) → TagWithin at (length s) t → TagWithin at (length s) (tagAnswer s m bs t)
+  unfolding tagAnswer
   judged-within m bs t w =
       pick-case (TagWithin at (length s)) (isRefused t or repeated s bs) _ _ (λ _. tt)
       (λ _. pick-case (TagWithin at (length s)) (pastLimit s m bs) _ _ (λ _. tt) (λ _. w))

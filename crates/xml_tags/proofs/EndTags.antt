@@ -16,14 +16,14 @@ use Rattle.text_scan.specs.Bytes.{text}
 use Rattle.text_scan.specs.Lists.{stands}
 use Rattle.text_scan.specs.declared.Found.the-variants.{At, Nothing}
 use Rattle.text_scan.proofs.Tests.{pick-case}
-use Rattle.text_scan.proofs.Within.{there, next-fits}
+use Rattle.text_scan.proofs.Within.{there}
 use Rattle.text_scan.proofs.Lists.{text-fits}
 use Rattle.text_scan.proofs.Ending.{Within}
-use Rattle.xml_markup.specs.Names.{spaceEnd}
-use Rattle.xml_markup.proofs.Names.{space-least}
-use Rattle.xml_tags.specs.Names.{elementEnd}
+use Rattle.xml_names.specs.Names.{spaceEnd}
+use Rattle.xml_names.proofs.Names.{space-least}
+use Rattle.xml_names.specs.ElementNames.{elementEnd}
 use Rattle.xml_tags.specs.EndTags.{closedBy, endTagTo, endTagEnd}
-use Rattle.xml_tags.proofs.Names.{element-least}
+use Rattle.xml_names.proofs.ElementNames.{element-least}
 
 module _ (s : List ℕ) (at : ℕ) (o : Bool) (eo : o ≡ stands (text "</") s at) where
   pub no-end-tag : o ≡ false → Nothing ≡ endTagEnd s at
@@ -51,10 +51,6 @@ module _ (s : List ℕ) (at : ℕ) (o : Bool) (eo : o ≡ stands (text "</") s a
         pub end-tag-open : (b ≡ code ">" → ⊥) → Nothing ≡ endTagEnd s at
         unfolding closedBy
         end-tag-open f = sym (named ∙ rw (← eb, ne-eqb b (code ">") f))
-
--- what stands behind '>' does not wrap
-pub close-fits : (s : List ℕ) (j b : ℕ) → b ≡ getD s j 0 → b ≡ code ">" → length s < 2 ^ 64 → Fits w64 (j + 1)
-close-fits s j b e f = next-fits s j b 62 e f (omega arith)
 
 -- ---- bounds
 closed-within : (s : List ℕ) (at j : ℕ) → at ≤ j → Within at (length s) (closedBy s j)

@@ -9,27 +9,20 @@ use native.Mathlib.Nat.{zero-add}
 use native.Mathlib.Omega.{arith}
 use borrow.Author.Tests.{eq-eqb, ne-eqb, lt-ltb, le-ltb, le-leb, lt-leb, leb-true}
 use lib.Dec.{ltb, leb}
-use lib.ListN.{length, take, drop, getD}
-use lib.Seq.{sets, sets-eq, length-sets, take-at, length-take-le}
+use lib.ListN.{length, take, getD}
+use lib.Seq.{sets, length-sets}
 use Rattle.text_scan.specs.Choice.{pick, _or_}
 use Rattle.text_scan.proofs.Tests.{pick-case, or-true}
 use Rattle.xml_reader.specs.Limits.{nameLimit, valueLimit, attributesLimit}
 use Rattle.xml_tags.specs.declared.Body.{Body}
-use Rattle.xml_tags.specs.declared.Tag.the-variants.{Refused}
-use Rattle.xml_tags.specs.Names.{elementEnd}
-use Rattle.xml_tags.specs.Rows.{items, ending}
-use Rattle.xml_tags.specs.Tags.{attributes, repeated, someLong, pastLimit, isRefused, judged, tagTo, tagAt}
+use Rattle.xml_attributes.specs.declared.Tag.the-variants.{Refused}
+use Rattle.xml_names.specs.ElementNames.{elementEnd}
+use Rattle.xml_attributes.specs.Rows.{items, ending}
+use Rattle.xml_attributes.specs.Parts.{attributes, repeated}
+use Rattle.xml_tags.specs.Tags.{someLong, pastLimit, isRefused, tagAnswer, tagTo, tagAt}
 use Rattle.xml_tags.specs.Reading.{bodyOf}
 use Rattle.xml_tags.proofs.Reading.{brought}
-
--- ---- the places that are kept are the list, where there is room
-pub kept-whole : (l bs : List ℕ) → length bs ≤ length l → take (length bs) (sets l 0 bs) ≡ bs
-kept-whole l bs h =
-    let g : 0 + length bs ≤ length l = omega arith in
-    rw (sets-eq bs l 0 g) (take-at bs (drop (0 + length bs) l) (length bs) refl)
-
-pub part-length : (l : List ℕ) (k : ℕ) → k ≤ length l → k ≡ length (take k l)
-part-length l k h = sym (length-take-le k l h)
+use Rattle.xml_attributes.proofs.Keeping.{kept-whole}
 
 module _ (s starts : List ℕ) (count at : ℕ) (r : Bool) where
   pub by-places : count ≤ length starts → r ≡ repeated s (take count starts) → r ≡ pick (leb count (length starts)) (repeated s (take count starts)) (repeated s (items (attributes s at)))
@@ -72,13 +65,13 @@ module _ (s : List ℕ) (at b : ℕ) (eb : b ≡ getD s at 0) where
       counted : body .count ≡ length (items (attributes s n))
       counted = ap (λ (x : Body). x .count) tells ∙ zero-add (length (items (attributes s n)))
 
-      named : tagAt s at ≡ judged s (n - (at + 1)) (items (attributes s n)) (body .ending)
+      named : tagAt s at ≡ tagAnswer s (n - (at + 1)) (items (attributes s n)) (body .ending)
       unfolding tagTo
-      named = rw (← eb, eq-eqb b (code "<") y, ← en, lt-ltb (at + 1) n h) (ap (judged s (n - (at + 1)) (items (attributes s n))) (sym (ap (λ (x : Body). x .ending) tells)))
+      named = rw (← eb, eq-eqb b (code "<") y, ← en, lt-ltb (at + 1) n h) (ap (tagAnswer s (n - (at + 1)) (items (attributes s n))) (sym (ap (λ (x : Body). x .ending) tells)))
 
       module _ (r : Bool) (er : r ≡ isRefused (body .ending)) where
         pub tag-malformed : r ≡ true → Refused 7 ≡ tagAt s at
-        unfolding judged
+        unfolding tagAnswer
         tag-malformed f = sym (named ∙ rw (← er, f))
 
         module _ (f : r ≡ false) (zeros starts : List ℕ) (es : starts ≡ sets zeros 0 (items (attributes s n))) (u : Bool) (eu : u ≡ pick (leb (body .count) (length starts)) (repeated s (take (body .count) starts)) (repeated s (items (attributes s n)))) where
@@ -86,12 +79,12 @@ module _ (s : List ℕ) (at b : ℕ) (eb : b ≡ getD s at 0) where
           told = eu ∙ either-way s zeros starts (items (attributes s n)) (body .count) es counted
 
           pub tag-repeats : u ≡ true → Refused 7 ≡ tagAt s at
-          unfolding judged
+          unfolding tagAnswer
           tag-repeats g = sym (named ∙ rw (← er, f, ← told, g))
 
           module _ (g : u ≡ false) where
             limited : tagAt s at ≡ pick (pastLimit s (n - (at + 1)) (items (attributes s n))) (Refused 8) (body .ending)
-            unfolding judged
+            unfolding tagAnswer
             limited = named ∙ rw (← er, f, ← told, g)
 
             pub tag-many : attributesLimit < body .count → Refused 8 ≡ tagAt s at

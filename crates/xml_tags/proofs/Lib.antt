@@ -1,11 +1,4 @@
-pub mod Rows
-pub mod Names
-pub mod Attributes
 pub mod EndTags
-pub mod Parts
-pub mod Some
 pub mod Reading
 pub mod Judged
 pub mod Bounds
-pub mod Twice
-pub mod Collecting

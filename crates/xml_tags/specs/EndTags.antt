@@ -10,8 +10,8 @@ use Rattle.text_scan.specs.Bytes.{text}
 use Rattle.text_scan.specs.Lists.{stands}
 use Rattle.text_scan.specs.declared.Found.{Found}
 use Rattle.text_scan.specs.declared.Found.the-variants.{At, Nothing}
-use Rattle.xml_markup.specs.Names.{spaceEnd}
-use Rattle.xml_tags.specs.Names.{elementEnd}
+use Rattle.xml_names.specs.Names.{spaceEnd}
+use Rattle.xml_names.specs.ElementNames.{elementEnd}
 
 -- the place after '>' at position j
 unfoldable pub closedBy : List ℕ → ℕ → Found

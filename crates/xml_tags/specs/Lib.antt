@@ -1,6 +1,3 @@
-pub mod Names
-pub mod Attributes
-pub mod Rows
 pub mod Tags
 pub mod Reading
 pub mod EndTags

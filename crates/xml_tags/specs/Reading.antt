@@ -1,13 +1,14 @@
--- What one reading of a tag's attributes brings: how the tag ends, the number of its attributes, and whether one of them passes a limit.
+-- What the contract of the private function `read` speaks of, and no definition of document 01: how a tag ends, the number of its attributes, and
+-- whether one of them passes a limit.
 -- Assumes nothing.
 use Prim.Native.Nat.{ℕ, _+_}
 use mathlib.Core.Bool.{Bool}
 use mathlib.Core.List.{List}
 use Rattle.text_scan.specs.Choice.{_or_}
 use Rattle.xml_tags.specs.declared.Body.{Body}
-use Rattle.xml_tags.specs.declared.Tag.{Tag}
-use Rattle.xml_tags.specs.Attributes.{isLong}
-use Rattle.xml_tags.specs.Rows.{Row, item, last}
+use Rattle.xml_attributes.specs.declared.Tag.{Tag}
+use Rattle.xml_attributes.specs.Attributes.{isLong}
+use Rattle.xml_attributes.specs.Rows.{Row, item, last}
 
 -- the rest of a row, behind k attributes of which one passes a limit, or none
 unfoldable pub bodyOf : List ℕ → ℕ → Bool → Row Tag → Body

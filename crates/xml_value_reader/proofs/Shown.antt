@@ -18,11 +18,10 @@ use Rattle.text_scan.proofs.Tests.{pick-case, and-left, and-right}
 use Rattle.text_chars.specs.Utf8.{firstBad}
 use Rattle.xml_reader.specs.Limits.{valueLimit}
 use Rattle.xml_references.specs.Decoded.{part}
-use Rattle.xml_markup.specs.Names.{nameEnd}
-use Rattle.xml_markup.proofs.Names.{name-least, name-most}
-use Rattle.xml_tags.specs.declared.Tag.{Tag}
-use Rattle.xml_tags.specs.declared.Tag.the-variants.{Start, Empty, Refused}
-use Rattle.xml_tags.specs.Names.{nameIs}
+use Rattle.xml_names.specs.Names.{nameEnd, nameIs}
+use Rattle.xml_names.proofs.Names.{name-least, name-most}
+use Rattle.xml_attributes.specs.declared.Tag.{Tag}
+use Rattle.xml_attributes.specs.declared.Tag.the-variants.{Start, Empty, Refused}
 use Rattle.xml_tags.specs.Tags.{tagAt}
 use Rattle.xml_tags.specs.EndTags.{endTagEnd}
 use Rattle.xml_tags.proofs.Bounds.{TagWithin, tag-within}
@@ -32,11 +31,12 @@ use Rattle.xml_values.specs.declared.Place.the-variants.{At, Nothing}
 use Rattle.xml_values.specs.declared.View.{View}
 use Rattle.xml_values.specs.declared.View.the-variants.{Document, Scratch}
 use Rattle.xml_values.specs.Attributes.{attributePlace, attributeOf, valueAt}
-use Rattle.xml_values.specs.Texts.{textPlace, textOf, textAt}
+use Rattle.xml_texts.specs.Texts.{textPlace, textOf, textAt}
 use Rattle.xml_values.specs.Views.{viewOf, scratchAfter, seen, InRange, Shows}
 use Rattle.xml_values.proofs.Views.{Says, shows-nothing, in-range, seen-is, attribute-says}
-use Rattle.xml_values.proofs.Texts.{text-says}
-use Rattle.xml_value_reader.specs.Shown.{isSound, isTag, opens, endsWith, closes, isElement, placeIn, bytesIn, moved, Outcome, showing, showingNothing, isReadable, shownOf, valueOf, Fills, Moves}
+use Rattle.xml_texts.proofs.Texts.{text-says}
+use Rattle.xml_value_reader.specs.Shown.{isSound, isTag, opens, endsWith, closes, isElement, placeIn, bytesIn, moved, ValueOutcome, showing, showingNothing, isReadable, shownOf, valueOf, Fills}
+use Rattle.xml_value_reader.specs.Moved.{Moves}
 
 -- ---- the first piece
 pub sound-part : (r : List ℕ) (n k : ℕ) → n ≤ length r → k ≡ firstBad (take n r) → eqb k n ≡ isSound (take n r)
@@ -250,7 +250,7 @@ module _ (document scratch : List ℕ) (first after : ℕ) (name : List ℕ) whe
         (record { answers = e ∙ ap (moved first) (x .answers); leaves = x .leaves })
 
   -- ---- what is seen of it
-  abbrev Right : List ℕ → Outcome → Type 0
+  abbrev Right : List ℕ → ValueOutcome → Type 0
   Right bytes o = InRange document (o .scratch) (o .view) × (seen document (o .scratch) (o .view) ≡ bytes)
 
   abbrev r : List ℕ

@@ -1,3 +1,4 @@
 pub mod Shown
 pub mod Examples
 pub mod Unique
+pub mod Moved

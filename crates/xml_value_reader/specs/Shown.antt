@@ -2,7 +2,7 @@
 -- text. An absent value, scratch under 4,096 bytes, a range outside the document, not opening an element or, for a text, not one element, or a fault
 -- of 5 to 8 in what is read shows an empty part of the document with scratch unchanged.
 -- Assumes nothing.
-use Prim.Native.Nat.{ℕ, _+_, _^_, _<_}
+use Prim.Native.Nat.{ℕ, _+_}
 use mathlib.Core.Path.{_≡_}
 use mathlib.Core.Bool.{Bool, true, false}
 use mathlib.Core.List.{List, [], _∷_}
@@ -12,11 +12,11 @@ use Rattle.text_scan.specs.Choice.{pick, _and_}
 use Rattle.text_scan.specs.declared.Found.{Found}
 use Rattle.text_scan.specs.declared.Found.the-variants.{At as EndsAt, Nothing as NoEndTag}
 use Rattle.text_chars.specs.Utf8.{firstBad}
-use Rattle.xml_reader.specs.Limits.{valueLimit}
+use Rattle.xml_reader.specs.Limits.{scratchLimit}
 use Rattle.xml_references.specs.Decoded.{part}
-use Rattle.xml_tags.specs.declared.Tag.{Tag}
-use Rattle.xml_tags.specs.declared.Tag.the-variants.{Start, Empty, Refused}
-use Rattle.xml_tags.specs.Names.{nameAt, nameIs}
+use Rattle.xml_attributes.specs.declared.Tag.{Tag}
+use Rattle.xml_attributes.specs.declared.Tag.the-variants.{Start, Empty, Refused}
+use Rattle.xml_names.specs.Names.{nameAt, nameIs}
 use Rattle.xml_tags.specs.Tags.{tagAt}
 use Rattle.xml_tags.specs.EndTags.{endTagEnd}
 use Rattle.xml_values.specs.declared.Place.{Place}
@@ -24,7 +24,7 @@ use Rattle.xml_values.specs.declared.Place.the-variants.{At, Nothing}
 use Rattle.xml_values.specs.declared.View.{View}
 use Rattle.xml_values.specs.declared.View.the-variants.{Document, Scratch}
 use Rattle.xml_values.specs.Attributes.{attributePlace, valueAt}
-use Rattle.xml_values.specs.Texts.{textPlace, textAt}
+use Rattle.xml_texts.specs.Texts.{textPlace, textAt}
 use Rattle.xml_values.specs.Views.{viewOf, scratchAfter}
 
 -- ---- faults in what is read of a range r, whose bytes are read as a document of their own
@@ -75,22 +75,22 @@ moved first (Document a e) = Document (first + a) (first + e)
 moved first (Scratch n) = Scratch n
 
 -- a view, and the scratch area with it
-pub record Outcome : Type 0 where
+pub record ValueOutcome : Type 0 where
   pub view : View
   pub scratch : List ℕ
 
-abbrev pub showing : ℕ → List ℕ → List ℕ → List ℕ → Outcome
+abbrev pub showing : ℕ → List ℕ → List ℕ → List ℕ → ValueOutcome
 showing first r name scratch =
     record { view = moved first (viewOf r (placeIn r name) (bytesIn r name)); scratch = scratchAfter (viewOf r (placeIn r name) (bytesIn r name)) (bytesIn r name) scratch }
 
-abbrev pub showingNothing : List ℕ → Outcome
+abbrev pub showingNothing : List ℕ → ValueOutcome
 showingNothing scratch = record { view = Document 0 0; scratch = scratch }
 
 -- the scratch area has room, and the range stands in the document
 abbrev pub isReadable : List ℕ → List ℕ → ℕ → ℕ → Bool
-isReadable document scratch first after = leb valueLimit (length scratch) and leb first after and leb after (length document)
+isReadable document scratch first after = leb scratchLimit (length scratch) and leb first after and leb after (length document)
 
-unfoldable pub shownOf : List ℕ → List ℕ → ℕ → ℕ → List ℕ → Outcome
+unfoldable pub shownOf : List ℕ → List ℕ → ℕ → ℕ → List ℕ → ValueOutcome
 shownOf document scratch first after name =
     pick (isReadable document scratch first after) (showing first (part document first after) name scratch) (showingNothing scratch)
 
@@ -100,11 +100,6 @@ valueOf document scratch first after name =
     pick (isReadable document scratch first after) (bytesIn (part document first after) name) []
 
 -- what the value reader answers, and leaves of the scratch area
-pub record Fills (o : Outcome) (view : View) (after : List ℕ) : Type 0 where
+pub record Fills (o : ValueOutcome) (view : View) (after : List ℕ) : Type 0 where
   pub answers : view ≡ o .view
   pub leaves : after ≡ o .scratch
-
--- the places of a view of a range that begins at `first` are numbers of the machine
-unfoldable pub Moves : ℕ → View → Type 0
-Moves first (Document a e) = (first + a < 2 ^ 64) × (first + e < 2 ^ 64)
-Moves first (Scratch n) = Unit {0}

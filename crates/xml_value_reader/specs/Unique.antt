@@ -5,10 +5,10 @@ use mathlib.Core.List.{List}
 use Prim.Native.Nat.{ℕ}
 use Rattle.text_scan.specs.Unique.{only}
 use Rattle.xml_values.specs.declared.View.{View}
-use Rattle.xml_value_reader.specs.Shown.{Outcome, Fills, valueOf}
+use Rattle.xml_value_reader.specs.Shown.{ValueOutcome, Fills, valueOf}
 
 -- of `fill`
-module _ (o : Outcome) (x y : View) (after after′ : List ℕ) (p : Fills o x after) (q : Fills o y after′) where
+module _ (o : ValueOutcome) (x y : View) (after after′ : List ℕ) (p : Fills o x after) (q : Fills o y after′) where
   pub one-view : x ≡ y
   one-view = only (p .answers) (q .answers)
 

@@ -3,12 +3,14 @@ ghost use mathlib.Core.Path.{_≡_};
 ghost use Prim.Native.Nat.{_≤_};
 ghost use lib.ListN.{length, take};
 ghost use Rattle.text_scan.specs.declared.Found.{Found};
+ghost use Rattle.xml_reader.specs.Limits.{scratchLimit};
 ghost use Rattle.xml_tags.specs.EndTags.{endTagEnd};
 ghost use Rattle.xml_values.specs.Views.{Shows};
-ghost use Rattle.xml_value_reader.specs.Shown.{isSound, isTag as tagIs, opens, endsWith, isElement, placeIn, bytesIn, moved as movedBy, shownOf, valueOf, Fills, Moves};
+ghost use Rattle.xml_value_reader.specs.Shown.{isSound, isTag as tagIs, opens, endsWith, isElement, placeIn, bytesIn, moved as movedBy, shownOf, valueOf, Fills};
+ghost use Rattle.xml_value_reader.specs.Moved.{Moves};
 use text_scan::Found;
+use xml_attributes::Tag;
 use xml_reader::Reader;
-use xml_tags::Tag;
 use xml_values::Place;
 use xml_values::View;
 
@@ -51,8 +53,8 @@ fn is_closed(r: &[u8], e: usize) -> bool
     if after != r.len() {
         return false;
     }
-    let n = xml_markup::name_end(r, 1);
-    xml_tags::name_is(r, e + 2, &r[1..n])
+    let n = xml_names::name_end(r, 1);
+    xml_names::name_is(r, e + 2, &r[1..n])
 }
 
 // Whether the range is one element without fault and without child elements.
@@ -63,7 +65,7 @@ fn is_element(r: &[u8]) -> bool
         return false;
     }
     if is_tag(xml_tags::tag_at(r, 0)) {
-        let Place::At(_, e) = xml_values::text_place(r, 0) else {
+        let Place::At(_, e) = xml_texts::text_place(r, 0) else {
             return false;
         };
         return is_closed(r, e);
@@ -73,12 +75,12 @@ fn is_element(r: &[u8]) -> bool
 
 // Reads the value in a range, and shows it as a part of the range or in front of the scratch area.
 fn fill_range(r: &[u8], scratch: &mut [u8], name: &[u8]) -> View
-    requires { ⌜ 4096 ≤ length (now scratch) ⌝ }
+    requires { ⌜ scratchLimit ≤ length (now scratch) ⌝ }
     ensures { λ v. ⌜ Shows (now (r .entry)) (placeIn (now (r .entry)) (now (name .entry))) (bytesIn (now (r .entry)) (now (name .entry))) (now (scratch .entry)) v (now (scratch .exit)) ⌝ }
 {
     if name.len() == 0 {
         if is_element(r) {
-            return xml_values::text_value(r, 0, scratch);
+            return xml_texts::text_value(r, 0, scratch);
         }
         return View::Document(0, 0);
     }
@@ -104,7 +106,7 @@ fn moved(first: usize, view: View) -> View
 pub fn fill(document: &[u8], scratch: &mut [u8], first: usize, after: usize, name: &[u8]) -> View
     ensures { λ v. ⌜ Fills (shownOf (now (document .entry)) (now (scratch .entry)) first after (now (name .entry))) v (now (scratch .exit)) ⌝ }
 {
-    if scratch.len() < Reader::VALUE {
+    if scratch.len() < Reader::SCRATCH {
         return View::Document(0, 0);
     }
     if after < first {

@@ -12,20 +12,20 @@ use lib.ListN.{length, getD}
 use Rattle.text_scan.specs.Choice.{_or_, _and_, not}
 use Rattle.text_scan.specs.Lists.{begins}
 use Rattle.text_scan.proofs.Tests.{pick-case}
-use Rattle.xml_markup.specs.Names.{nameEnd}
+use Rattle.xml_names.specs.Names.{nameEnd, nameIs}
 use Rattle.xml_reader.specs.Limits.{valueLimit}
-use Rattle.xml_tags.specs.declared.Attribute.{Attribute}
-use Rattle.xml_tags.specs.declared.Attribute.the-variants.{At as Attribute-at, Nothing as NoAttribute}
-use Rattle.xml_tags.specs.declared.Part.{Part}
-use Rattle.xml_tags.specs.declared.Part.the-variants.{Read, Ended}
-use Rattle.xml_tags.specs.declared.Tag.{Tag}
-use Rattle.xml_tags.specs.Names.{elementEnd, nameIs}
-use Rattle.xml_tags.specs.Attributes.{attributeAt}
-use Rattle.xml_tags.specs.Rows.{items}
-use Rattle.xml_tags.specs.Tags.{partAt, attributes, some}
-use Rattle.xml_tags.proofs.Attributes.{Inside, attribute-inside}
-use Rattle.xml_tags.proofs.Parts.{read-attribute, attributes-go, attributes-stop, attributes-out}
-use Rattle.xml_tags.proofs.Some.{From, row-out, row-ended, row-found, row-next}
+use Rattle.xml_attributes.specs.declared.Attribute.{Attribute}
+use Rattle.xml_attributes.specs.declared.Attribute.the-variants.{At as Attribute-at, Nothing as NoAttribute}
+use Rattle.xml_attributes.specs.declared.TagPart.{TagPart}
+use Rattle.xml_attributes.specs.declared.TagPart.the-variants.{Read, Ended}
+use Rattle.xml_attributes.specs.declared.Tag.{Tag}
+use Rattle.xml_names.specs.ElementNames.{elementEnd}
+use Rattle.xml_attributes.specs.Attributes.{attributeAt}
+use Rattle.xml_attributes.specs.Rows.{items}
+use Rattle.xml_attributes.specs.Parts.{partAt, attributes, someAttribute}
+use Rattle.xml_attributes.proofs.Attributes.{Inside, attribute-inside}
+use Rattle.xml_attributes.proofs.Parts.{read-attribute, attributes-go, attributes-stop, attributes-out}
+use Rattle.xml_attributes.proofs.Some.{From, row-out, row-ended, row-found, row-next}
 use Rattle.xml_values.specs.declared.Place.{Place}
 use Rattle.xml_values.specs.declared.Place.the-variants.{At, Nothing}
 use Rattle.xml_values.specs.Attributes.{nameAfter, attributesOf, valuePlace, firstNamed, attributePlace, hasValue, isListed, isOther, hasOther}
@@ -58,7 +58,7 @@ module _ (name s : List ℕ) (first i : ℕ) (l : Finds name s first i) where
   unfolding firstNamed items
   finds-out h = sym (l ∙ rw (attributes-out s i h))
 
-  module _ (h : i < length s) (x : Part) (ex : x ≡ partAt s i) where
+  module _ (h : i < length s) (x : TagPart) (ex : x ≡ partAt s i) where
     pub finds-ended : (t : Tag) → x ≡ Ended t → Nothing ≡ attributePlace s first name
     unfolding firstNamed items
     finds-ended t z = sym (l ∙ rw (attributes-stop s i x ex t z h))
@@ -116,7 +116,7 @@ module _ (names : List (List ℕ)) (s : List ℕ) (first i : ℕ) (l : Others na
   unfolding hasOther
   others-out h = row-out (λ b _. isOther names s b) s (nameAfter s first) i l h
 
-  module _ (h : i < length s) (x : Part) (ex : x ≡ partAt s i) where
+  module _ (h : i < length s) (x : TagPart) (ex : x ≡ partAt s i) where
     pub others-ended : (t : Tag) → x ≡ Ended t → false ≡ hasOther s first names
     unfolding hasOther
     others-ended t z = row-ended (λ b _. isOther names s b) s (nameAfter s first) i l h x ex t z
@@ -165,7 +165,7 @@ module _ (s : List ℕ) (first : ℕ) (name : List ℕ) (p : Place) (ep : p ≡ 
   pub place-inside : e ≤ length s
   place-inside = told .1
 
-  pub place-room : (out : List ℕ) → 4096 ≤ length out → e - a ≤ length out
+  pub place-room : (out : List ℕ) → valueLimit ≤ length out → e - a ≤ length out
   place-room out h = omega (arith, told .2)
 
 -- ---- for callers: an empty name lists nothing, so a caller with fewer names hands in empty ones
@@ -186,10 +186,10 @@ append-other names s b = go (attributeAt s b) (attribute-inside s b)
     go (Attribute-at n v e) w = rw (append-listed names s b (unnamed s b (rw (w .0) at (w .1))))
     go NoAttribute w = refl
 
-some-same : (p q : ℕ → List ℕ → Bool) → ((b : ℕ) (bs : List ℕ) → p b bs ≡ q b bs) → (bs : List ℕ) → some p bs ≡ some q bs
-unfolding some
+some-same : (p q : ℕ → List ℕ → Bool) → ((b : ℕ) (bs : List ℕ) → p b bs ≡ q b bs) → (bs : List ℕ) → someAttribute p bs ≡ someAttribute q bs
+unfolding someAttribute
 some-same p q f [] = refl
-some-same p q f (b ∷ bs) = ap (λ t. t or some p bs) (f b bs) ∙ ap (λ t. q b bs or t) (some-same p q f bs)
+some-same p q f (b ∷ bs) = ap (λ t. t or someAttribute p bs) (f b bs) ∙ ap (λ t. q b bs or t) (some-same p q f bs)
 
 pub empty-name : (s : List ℕ) (first : ℕ) (names : List (List ℕ)) → hasOther s first (names ++ ([] ∷ [])) ≡ hasOther s first names
 unfolding hasOther

@@ -1,5 +1,3 @@
 pub mod Attributes
 pub mod Unlisted
-pub mod Texts
 pub mod Views
-pub mod Compared

@@ -16,18 +16,17 @@ use Rattle.text_scan.proofs.Tests.{never, pick-case, and-left, and-right, and-t
 use Rattle.text_scan.proofs.Lists.{run-stops}
 use Rattle.text_scan.proofs.Within.{there}
 use Rattle.text_facts.specs.Strings.{equal, isOneOf}
-use Rattle.xml_markup.specs.Names.{isSpace, spaceEnd, nameEnd}
+use Rattle.xml_names.specs.Names.{isSpace, spaceEnd, nameEnd, nameIs}
 use Rattle.xml_reader.specs.Limits.{valueLimit}
 use Rattle.xml_references.specs.Decoded.{replaced}
-use Rattle.xml_tags.specs.declared.Attribute.{Attribute}
-use Rattle.xml_tags.specs.declared.Attribute.the-variants.{At as Attribute-at, Nothing as NoAttribute}
-use Rattle.xml_tags.specs.declared.Part.the-variants.{Ended}
-use Rattle.xml_tags.specs.declared.Tag.the-variants.{Start}
-use Rattle.xml_tags.specs.Names.{nameIs}
-use Rattle.xml_tags.specs.Attributes.{attributeAt}
-use Rattle.xml_tags.specs.Rows.{items}
-use Rattle.xml_tags.specs.Tags.{some}
-use Rattle.xml_tags.proofs.Parts.{part-start, attributes-stop}
+use Rattle.xml_attributes.specs.declared.Attribute.{Attribute}
+use Rattle.xml_attributes.specs.declared.Attribute.the-variants.{At as Attribute-at, Nothing as NoAttribute}
+use Rattle.xml_attributes.specs.declared.TagPart.the-variants.{Ended}
+use Rattle.xml_attributes.specs.declared.Tag.the-variants.{Start}
+use Rattle.xml_attributes.specs.Attributes.{attributeAt}
+use Rattle.xml_attributes.specs.Rows.{items}
+use Rattle.xml_attributes.specs.Parts.{someAttribute}
+use Rattle.xml_attributes.proofs.Parts.{part-start, attributes-stop}
 use Rattle.xml_values.specs.declared.Place.the-variants.{At, Nothing}
 use Rattle.xml_values.specs.Attributes.{nameAfter, isBare, attributesOf, valuePlace, firstNamed, attributePlace, valueAt, attributeOf, hasValue, isListed, isOther, hasOther}
 
@@ -49,7 +48,7 @@ bare-none s first t =
     rw (attributes-stop s i (Ended (Start (i + 1))) (part-start s i i g (getD s i 0) refl e) (Start (i + 1)) refl h)
 
 pub bare-other : (s : List ℕ) (first : ℕ) (names : List (List ℕ)) → isBare s first ≡ true → hasOther s first names ≡ false
-unfolding hasOther some
+unfolding hasOther someAttribute
 bare-other s first names t = rw (bare-none s first t)
 
 -- ---- two names at one position are one
@@ -88,18 +87,18 @@ empty-says s (Attribute-at n v e) f =
 empty-says s NoAttribute f = refl
 
 module _ (s : List ℕ) (names : List (List ℕ)) (name : List ℕ) (u : isOneOf names name ≡ false) where
-  nothing-said : (bs : List ℕ) → some (λ b _. isOther names s b) bs ≡ false → valueAt s (firstNamed name s bs) ≡ []
-  unfolding some firstNamed isOther
+  nothing-said : (bs : List ℕ) → someAttribute (λ b _. isOther names s b) bs ≡ false → valueAt s (firstNamed name s bs) ≡ []
+  unfolding someAttribute firstNamed isOther
   nothing-said [] e = refl
   nothing-said (b ∷ bs) e =
       pick-case (λ p. valueAt s p ≡ []) (nameIs name s b) (valuePlace (attributeAt s b)) (firstNamed name s bs)
       (λ y. empty-says s (attributeAt s b) (unvalued y))
-      (λ _. nothing-said bs (or-right (isOther names s b) (some (λ c _. isOther names s c) bs) e))
+      (λ _. nothing-said bs (or-right (isOther names s b) (someAttribute (λ c _. isOther names s c) bs) e))
     where
       unvalued : nameIs name s b ≡ true → hasValue (attributeAt s b) ≡ false
       unvalued y =
           sym (and-true (hasValue (attributeAt s b)))
-          ∙ (rw (not-listed names name s b u y) at (or-left (isOther names s b) (some (λ c _. isOther names s c) bs) e))
+          ∙ (rw (not-listed names name s b u y) at (or-left (isOther names s b) (someAttribute (λ c _. isOther names s c) bs) e))
 
   pub unlisted-says : (first : ℕ) → hasOther s first names ≡ false → attributeOf s first name ≡ []
   unfolding hasOther attributePlace

@@ -15,8 +15,7 @@ use Rattle.text_scan.specs.Lists.{every}
 use Rattle.text_scan.proofs.Tests.{and-left, and-right, and-false}
 use Rattle.text_scan.proofs.Lists.{Every, every-goes, every-stops}
 use Rattle.xml_reader.specs.Limits.{valueLimit}
-use Rattle.text_facts.specs.Strings.{equal}
-use Rattle.xml_references.specs.Decoded.{replaced, part, decoded, isPlain}
+use Rattle.xml_references.specs.Decoded.{part, decoded, isPlain}
 use Rattle.xml_references.proofs.Replaced.{decoded-most, plain-same}
 use Rattle.xml_values.specs.declared.Place.{Place}
 use Rattle.xml_values.specs.declared.Place.the-variants.{At, Nothing}
@@ -85,7 +84,7 @@ pub says-most : (s : List ℕ) (place : Place) (bytes : List ℕ) → Says s pla
 says-most s (At a e) bytes k = omega (arith, k .2, k .4)
 says-most s Nothing bytes k = rw k (omega arith)
 
-module _ (s bytes scratch : List ℕ) (room : 4096 ≤ length scratch) where
+module _ (s bytes scratch : List ℕ) (room : valueLimit ≤ length scratch) where
   -- of the view that the definition gives, and the scratch area that it leaves
   Seen : View → Type 0
   Seen v = InRange s (scratchAfter v bytes scratch) v × (seen s (scratchAfter v bytes scratch) v ≡ bytes)
@@ -156,14 +155,14 @@ attribute-says s first name = go (attributePlace s first name) (attribute-within
     go (At a e) w = (w .0, w .1, w .2, λ q. plain-same (part s a e) (shown-plain (part s a e) q), decoded-most s a e)
     go Nothing w = refl
 
-module _ (s : List ℕ) (first : ℕ) (name scratch : List ℕ) (view : View) (after : List ℕ) (x : Shows s (attributePlace s first name) (attributeOf s first name) scratch view after) (room : 4096 ≤ length scratch) where
+module _ (s : List ℕ) (first : ℕ) (name scratch : List ℕ) (view : View) (after : List ℕ) (x : Shows s (attributePlace s first name) (attributeOf s first name) scratch view after) (room : valueLimit ≤ length scratch) where
   pub attribute-in-range : InRange s after view
   attribute-in-range = in-range s (attributeOf s first name) scratch room (attributePlace s first name) (attribute-says s first name) view after x
 
   pub attribute-seen : (r : List ℕ) → r ≡ seen s after view → r ≡ attributeOf s first name
   attribute-seen r e = e ∙ seen-is s (attributeOf s first name) scratch room (attributePlace s first name) (attribute-says s first name) view after x
 
--- ---- an attribute that says the bytes where it stands, and one that says these bytes
+-- ---- an attribute that says the bytes where it stands
 module _ (s : List ℕ) (first : ℕ) (name : List ℕ) (p : Place) where
   module _ (ep : p ≡ plainOf s (attributePlace s first name)) (a e : ℕ) (z : p ≡ At a e) where
     stands : AsItStands s (attributeOf s first name) (At a e)
@@ -177,11 +176,3 @@ module _ (s : List ℕ) (first : ℕ) (name : List ℕ) (p : Place) where
 
     pub plain-attribute-says : part s a e ≡ attributeOf s first name
     plain-attribute-says = stands .2
-
-  module _ (bytes : List ℕ) (r : Bool) (ep : p ≡ attributePlace s first name) where
-    pub absent-is : p ≡ Nothing → r ≡ equal (replaced 0 []) bytes → r ≡ equal (attributeOf s first name) bytes
-    unfolding replaced
-    absent-is z h = h ∙ rw (sym ep ∙ z)
-
-    pub value-is : (a e : ℕ) → p ≡ At a e → r ≡ equal (replaced 0 (part s a e)) bytes → r ≡ equal (attributeOf s first name) bytes
-    value-is a e z h = h ∙ rw (sym ep ∙ z)

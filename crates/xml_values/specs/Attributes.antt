@@ -10,13 +10,14 @@ use lib.ListN.{length, getD}
 use Rattle.text_scan.specs.Choice.{pick, _or_, _and_, not}
 use Rattle.xml_reader.specs.Limits.{valueLimit}
 use Rattle.xml_references.specs.Decoded.{decoded}
-use Rattle.xml_tags.specs.declared.Attribute.{Attribute}
-use Rattle.xml_tags.specs.declared.Attribute.the-variants.{At as Attribute-at, Nothing as NoAttribute}
-use Rattle.xml_tags.specs.declared.Tag.{Tag}
-use Rattle.xml_tags.specs.Names.{elementEnd, nameIs}
-use Rattle.xml_tags.specs.Attributes.{attributeAt}
-use Rattle.xml_tags.specs.Rows.{Row, items}
-use Rattle.xml_tags.specs.Tags.{attributes, some}
+use Rattle.xml_attributes.specs.declared.Attribute.{Attribute}
+use Rattle.xml_attributes.specs.declared.Attribute.the-variants.{At as Attribute-at, Nothing as NoAttribute}
+use Rattle.xml_attributes.specs.declared.Tag.{Tag}
+use Rattle.xml_names.specs.ElementNames.{elementEnd}
+use Rattle.xml_names.specs.Names.{nameIs}
+use Rattle.xml_attributes.specs.Attributes.{attributeAt}
+use Rattle.xml_attributes.specs.Rows.{Row, items}
+use Rattle.xml_attributes.specs.Parts.{attributes, someAttribute}
 use Rattle.xml_values.specs.declared.Place.{Place}
 use Rattle.xml_values.specs.declared.Place.the-variants.{At, Nothing}
 
@@ -75,4 +76,4 @@ isOther names s b = hasValue (attributeAt s b) and not (isListed names s b)
 
 -- some attribute of the tag that begins at `first` is not empty and has none of the names
 unfoldable pub hasOther : List ℕ → ℕ → List (List ℕ) → Bool
-hasOther s first names = some (λ b _. isOther names s b) (attributesOf s first)
+hasOther s first names = someAttribute (λ b _. isOther names s b) (attributesOf s first)

@@ -7,24 +7,19 @@ use Rattle.text_scan.specs.Bytes.{text}
 use Rattle.text_scan.specs.Lists.{every, begins, runEnd}
 use Rattle.text_scan.specs.Walk.{walk, from}
 use Rattle.text_chars.specs.Utf8.{isXmlChar}
-use Rattle.text_chars.specs.Encode.{encoded}
-use Rattle.xml_markup.specs.Names.{nameEnd}
-use Rattle.xml_markup.specs.Values.{opened, equalsAt}
-use Rattle.xml_markup.specs.Comments.{commentStep, commentEnd}
-use Rattle.xml_markup.specs.Instructions.{closeStep, closeEnd, dataEnd, instructionTo}
+use Rattle.text_encode.specs.Encode.{encoded}
+use Rattle.xml_names.specs.Names.{nameEnd, nameIs}
+use Rattle.xml_names.specs.Values.{opened, equalsAt}
 use Rattle.xml_references.specs.References.{digitValue, number, named, referenceOf}
-use Rattle.xml_references.specs.Runs.{valueStep, valueEnd, textStep, textEnd}
+use Rattle.xml_references.specs.Runs.{valueStep, valueEnd}
 use Rattle.xml_references.specs.Decoded.{replaced}
-use Rattle.xml_tags.specs.Names.{elementEnd, nameIs}
-use Rattle.xml_tags.specs.Attributes.{attributeTo, isLong}
-use Rattle.xml_tags.specs.Rows.{items, ending, row, rowFrom}
-use Rattle.xml_tags.specs.Tags.{partTo, pieceAt as tagPieceAt, attributes, some, judged, tagTo}
-use Rattle.xml_tags.specs.EndTags.{closedBy, endTagTo}
-use Rattle.xml_pieces.specs.Pieces.{textAt, bangAt, questionAt, endAt, startAt, markupAt, pieceAt}
+use Rattle.xml_names.specs.ElementNames.{elementEnd}
+use Rattle.xml_attributes.specs.Attributes.{attributeTo}
+use Rattle.xml_attributes.specs.Rows.{items, row, rowFrom}
+use Rattle.xml_attributes.specs.Parts.{partTo, pieceAt as tagPieceAt, attributes, someAttribute}
 use Rattle.xml_values.specs.declared.Place.the-variants.{At, Nothing}
 use Rattle.xml_values.specs.declared.View.the-variants.{Document, Scratch}
 use Rattle.xml_values.specs.Attributes.{nameAfter, firstNamed, attributePlace, attributeOf, isListed, isOther, hasOther}
-use Rattle.xml_values.specs.Texts.{contentAt, stepAt, contentFrom, textPlace, saying, saidFrom, textOf}
 use Rattle.xml_values.specs.Views.{viewOf}
 
 -- ---- attributes
@@ -47,25 +42,12 @@ no-tag = refl
 
 -- an empty attribute is a missing one
 listed : hasOther (text "<id root='1.2' x=''/>") 0 (text "root" ∷ []) ≡ false
-unfolding begins runEnd nameEnd opened equalsAt walk from digitValue number named referenceOf valueStep valueEnd attributeTo items row rowFrom partTo tagPieceAt attributes elementEnd nameIs nameAfter some isListed isOther hasOther
+unfolding begins runEnd nameEnd opened equalsAt walk from digitValue number named referenceOf valueStep valueEnd attributeTo items row rowFrom partTo tagPieceAt attributes elementEnd nameIs nameAfter someAttribute isListed isOther hasOther
 listed = refl
 
 unlisted : hasOther (text "<id root='1.2' x='1'/>") 0 (text "root" ∷ []) ≡ true
-unfolding begins runEnd nameEnd opened equalsAt walk from digitValue number named referenceOf valueStep valueEnd attributeTo items row rowFrom partTo tagPieceAt attributes elementEnd nameIs nameAfter some isListed isOther hasOther
+unfolding begins runEnd nameEnd opened equalsAt walk from digitValue number named referenceOf valueStep valueEnd attributeTo items row rowFrom partTo tagPieceAt attributes elementEnd nameIs nameAfter someAttribute isListed isOther hasOther
 unlisted = refl
-
--- ---- texts
-said : textOf (text "<a x='1'>x<!-- c -->y&lt;<?p q?></a>") 0 ≡ text "xy<"
-unfolding begins runEnd nameEnd opened equalsAt walk from isXmlChar encoded digitValue number named referenceOf valueStep valueEnd textStep textEnd commentStep commentEnd closeStep closeEnd dataEnd instructionTo attributeTo items ending row rowFrom partTo tagPieceAt attributes elementEnd nameIs nameAfter closedBy endTagTo textAt bangAt questionAt endAt markupAt pieceAt contentAt stepAt contentFrom textPlace saying saidFrom replaced
-said = refl
-
-child : textOf (text "<a>x<b/></a>") 0 ≡ []
-unfolding begins runEnd nameEnd opened equalsAt walk from isXmlChar encoded digitValue number named referenceOf valueStep valueEnd textStep textEnd commentStep commentEnd attributeTo items ending row rowFrom partTo tagPieceAt attributes isLong some judged tagTo elementEnd nameIs nameAfter closedBy endTagTo textAt bangAt questionAt endAt startAt markupAt pieceAt contentAt stepAt contentFrom textPlace saying saidFrom replaced
-child = refl
-
-empty-tag : textOf (text "<a/>x</a>") 0 ≡ []
-unfolding begins runEnd nameEnd opened equalsAt walk from attributeTo items ending row rowFrom partTo tagPieceAt attributes elementEnd nameIs nameAfter contentAt stepAt contentFrom textPlace saying saidFrom replaced
-empty-tag = refl
 
 -- ---- views: as it stands, decoded, and absent
 as-it-stands : viewOf (text "<a>xy</a>") (At 3 5) (text "xy") ≡ Document 3 5

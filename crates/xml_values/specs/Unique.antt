@@ -5,28 +5,19 @@ use mathlib.Core.Bool.{Bool}
 use mathlib.Core.List.{List}
 use Prim.Native.Nat.{ℕ}
 use Rattle.text_scan.specs.Unique.{only}
-use Rattle.text_facts.specs.Strings.{equal}
-use Rattle.xml_references.specs.Decoded.{replaced}
 use Rattle.xml_values.specs.declared.Place.{Place}
 use Rattle.xml_values.specs.declared.View.{View}
 use Rattle.xml_values.specs.Attributes.{isBare, attributePlace, hasOther}
-use Rattle.xml_values.specs.Texts.{textPlace}
 use Rattle.xml_values.specs.Views.{Shows}
 
 pub attribute-place : (s : List ℕ) (first : ℕ) (name : List ℕ) (x y : Place) → x ≡ attributePlace s first name → y ≡ attributePlace s first name → x ≡ y
 attribute-place s first name x y p q = only p q
-
-pub text-place : (s : List ℕ) (first : ℕ) (x y : Place) → x ≡ textPlace s first → y ≡ textPlace s first → x ≡ y
-text-place s first x y p q = only p q
 
 pub is-bare : (s : List ℕ) (first : ℕ) (x y : Bool) → x ≡ isBare s first → y ≡ isBare s first → x ≡ y
 is-bare s first x y p q = only p q
 
 pub has-other-attribute : (s : List ℕ) (first : ℕ) (names : List (List ℕ)) (x y : Bool) → x ≡ hasOther s first names → y ≡ hasOther s first names → x ≡ y
 has-other-attribute s first names x y p q = only p q
-
-pub is-value : (raw bytes : List ℕ) (x y : Bool) → x ≡ equal (replaced 0 raw) bytes → y ≡ equal (replaced 0 raw) bytes → x ≡ y
-is-value raw bytes x y p q = only p q
 
 -- of `attribute_value` and `text_value`
 module _ (s : List ℕ) (place : Place) (bytes scratch : List ℕ) (x y : View) (after after′ : List ℕ) (p : Shows s place bytes scratch x after) (q : Shows s place bytes scratch y after′) where

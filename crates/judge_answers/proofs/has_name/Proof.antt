@@ -1,7 +1,7 @@
 -- `judge_answers::has_name` meets its contract.
 -- Assumes nothing.
 use Rattle.xml_values.proofs.Views.{plain-attribute-ahead, plain-attribute-inside, plain-attribute-says}
-use Rattle.xml_values.proofs.Texts.{plain-text-ahead, plain-text-inside, plain-text-says}
+use Rattle.xml_texts.proofs.Texts.{plain-text-ahead, plain-text-inside, plain-text-says}
 use Rattle.judge_answers.proofs.Asked.{name-asked}
 use Rattle.table_index.proofs.Runs.{any-name}
 use Rattle.table_rows.specs.Rows.{isAsked}

@@ -1,6 +1,6 @@
 -- `judge_listed::is_document` meets its contract.
 -- Assumes nothing.
-use Rattle.xml_markup.proofs.Names.{name-ahead, name-inside, name-there}
+use Rattle.xml_names.proofs.Names.{name-ahead, name-inside, name-there}
 use Rattle.judge_listed.proofs.Laws.{unnamed, named}
 use borrow.Author.Needs.{needs}
 use Rattle.judge_listed.proofs.is_document.Statement.{statement}

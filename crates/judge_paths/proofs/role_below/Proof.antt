@@ -1,6 +1,6 @@
 -- `judge_paths::role_below` meets its contract: the name stands behind the first byte.
 -- Assumes nothing.
-use Rattle.xml_markup.proofs.Names.{name-ahead, name-inside}
+use Rattle.xml_names.proofs.Names.{name-ahead, name-inside}
 use Rattle.judge_paths.proofs.Walks.{row-within, name-within, name-below}
 use borrow.Author.Needs.{needs}
 use Rattle.judge_paths.proofs.role_below.Statement.{statement}

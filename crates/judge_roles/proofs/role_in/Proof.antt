@@ -2,7 +2,7 @@
 -- Assumes nothing.
 use Rattle.judge_roles.proofs.Below.{below-late, below-past, below-unknown, below-named}
 use Rattle.judge_paths.proofs.Walks.{role-root}
-use Rattle.xml_markup.proofs.Names.{name-ahead, name-inside, name-there}
+use Rattle.xml_names.proofs.Names.{name-ahead, name-inside, name-there}
 use borrow.Author.Needs.{needs}
 use Rattle.judge_roles.proofs.role_in.Statement.{statement}
 use Rattle.judge_roles.proofs.role_in.Tie as tie

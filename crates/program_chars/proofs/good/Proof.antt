@@ -3,7 +3,7 @@
 use mathlib.Core.Path.{sym}
 use native.Mathlib.Omega.{arith}
 use lib.Seq.{length-take-le}
-use Rattle.text_chars.proofs.Forms.{encoded-most}
+use Rattle.text_encode.proofs.Forms.{encoded-most}
 use borrow.Author.Needs.{needs}
 use Rattle.program_chars.proofs.good.Statement.{statement}
 use Rattle.program_chars.proofs.good.Tie as tie

@@ -4,7 +4,7 @@
 use Prim.Native.Nat.{_-_, _≤_}
 use lib.ListN.{length, getD}
 use borrow.Author.Needs.{needs}
-use Rattle.xml_markup.specs.Names.{isNameStart, isNameChar}
+use Rattle.xml_names.specs.Names.{isNameStart, isNameChar}
 use Rattle.sort_compare.proofs.Bytes.{byte-least, byte-next, byte-next-too, byte-falls, Compares, compare-starts, compare-same, compare-goes, compare-less, compare-more}
 use Rattle.sort_compare.proofs.compare_names.Statement.{statement}
 use Rattle.sort_compare.proofs.compare_names.Tie as tie

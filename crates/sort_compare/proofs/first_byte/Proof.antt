@@ -1,7 +1,7 @@
 -- `sort_compare::first_byte` meets its contract.
 -- Assumes nothing.
 use mathlib.Core.Path.{refl}
-use Rattle.xml_markup.specs.Names.{isNameStart}
+use Rattle.xml_names.specs.Names.{isNameStart}
 use Rattle.sort_compare.proofs.Bytes.{byte-past, byte-in, byte-out}
 use borrow.Author.Needs.{needs}
 use Rattle.sort_compare.proofs.first_byte.Statement.{statement}

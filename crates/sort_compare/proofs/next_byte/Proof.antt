@@ -1,7 +1,7 @@
 -- `sort_compare::next_byte` meets its contract.
 -- Assumes nothing.
 use mathlib.Core.Path.{refl}
-use Rattle.xml_markup.specs.Names.{isNameChar}
+use Rattle.xml_names.specs.Names.{isNameChar}
 use Rattle.sort_compare.proofs.Bytes.{byte-past, byte-in, byte-out}
 use borrow.Author.Needs.{needs}
 use Rattle.sort_compare.proofs.next_byte.Statement.{statement}

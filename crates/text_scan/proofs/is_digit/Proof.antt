@@ -1,6 +1,6 @@
 -- `text_scan::is_digit` meets its contract: both returns are an interval of bytes, which antt computes.
 -- Assumes nothing.
-use mathlib.Core.Bool.{true, false}
+use mathlib.Core.Bool.{false}
 use native.Mathlib.Omega.{arith}
 use lib.Dec.{leb}
 use Rattle.text_scan.specs.Bytes.{isDigit}

@@ -1,7 +1,6 @@
 -- `text_telephones::groups_end` meets its contract. The invariant: the groups' end, told from `at`, is their end told from i.
 -- Assumes nothing.
 use Prim.Native.Nat.{_-_}
-use mathlib.Core.Path.{refl}
 use lib.ListN.{length}
 use borrow.Author.Needs.{needs}
 use Rattle.text_telephones.proofs.TelephoneLaws.{Groups, groups-start, groups-end, groups-stop, groups-go, groups-fall}

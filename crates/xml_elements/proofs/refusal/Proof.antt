@@ -1,6 +1,6 @@
 -- `xml_elements::refusal` meets its contract: a case for each constructor.
 -- Assumes nothing.
-use Rattle.xml_elements.proofs.Steps.{refused-piece, no-refused-piece}
+use Rattle.xml_elements.proofs.Outcomes.{refused-piece, no-refused-piece}
 use borrow.Author.Needs.{needs}
 use Rattle.xml_elements.proofs.refusal.Statement.{statement}
 use Rattle.xml_elements.proofs.refusal.Tie as tie

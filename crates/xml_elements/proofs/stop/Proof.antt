@@ -1,6 +1,6 @@
 -- `xml_elements::stop` meets its contract: a case for each constructor.
 -- Assumes nothing.
-use Rattle.xml_elements.proofs.Steps.{stopped-step, no-stopped-step}
+use Rattle.xml_elements.proofs.Outcomes.{stopped-step, no-stopped-step}
 use borrow.Author.Needs.{needs}
 use Rattle.xml_elements.proofs.stop.Statement.{statement}
 use Rattle.xml_elements.proofs.stop.Tie as tie

@@ -4,7 +4,7 @@ use Prim.Native.Nat.{_-_}
 use mathlib.Core.Path.{_≡_, refl}
 use lib.ListN.{length}
 use borrow.Author.Needs.{needs}
-use Rattle.xml_elements.proofs.Steps.{roomy-kept}
+use Rattle.xml_steps.proofs.Steps.{roomy-kept}
 use Rattle.xml_elements.proofs.Walks.{Told, told-start, open-left, no-root, all-read, piece-refused, steps, step-stopped, told-again, told-less}
 use Rattle.xml_elements.proofs.walk.Statement.{statement}
 use Rattle.xml_elements.proofs.walk.Tie as tie

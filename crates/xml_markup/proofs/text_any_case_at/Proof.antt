@@ -19,11 +19,11 @@ loop-holds c = search any-starts
 returns : tie.Need-returns Inv-loop μ-loop
 returns c = search any-short
 
-shared-slice-read-lower : tie.Need-shared-slice-read-lower Inv-loop μ-loop
-shared-slice-read-lower c = search needs
+shared-slice-read-lower-case : tie.Need-shared-slice-read-lower-case Inv-loop μ-loop
+shared-slice-read-lower-case c = search needs
 
-lower-requires : tie.Need-lower-requires Inv-loop μ-loop
-lower-requires c κs = search needs
+lower-case-requires : tie.Need-lower-case-requires Inv-loop μ-loop
+lower-case-requires c κs = search needs
 
 shared-slice-read-if2 : tie.Need-shared-slice-read-if2 Inv-loop μ-loop
 shared-slice-read-if2 c = search needs
@@ -54,8 +54,8 @@ text-any-case-at-spec =
     μ-loop
     loop-holds
     returns
-    shared-slice-read-lower
-    lower-requires
+    shared-slice-read-lower-case
+    lower-case-requires
     shared-slice-read-if2
     returns-2
     add-i

@@ -1,6 +1,7 @@
 -- `xml_tags::end_tag_end` meets its contract.
 -- Assumes nothing.
-use Rattle.xml_tags.proofs.EndTags.{close-fits, no-end-tag, end-tag-fits, no-element, end-tag-whole, end-tag-open}
+use Rattle.xml_attributes.proofs.Parts.{close-fits}
+use Rattle.xml_tags.proofs.EndTags.{no-end-tag, end-tag-fits, no-element, end-tag-whole, end-tag-open}
 use borrow.Author.Needs.{needs}
 use Rattle.xml_tags.proofs.end_tag_end.Statement.{statement}
 use Rattle.xml_tags.proofs.end_tag_end.Tie as tie

@@ -1,6 +1,6 @@
 -- `xml_tags::keep` meets its contract.
 -- Assumes nothing.
-use Rattle.xml_tags.proofs.Reading.{keep-past}
+use Rattle.xml_attributes.proofs.Keeping.{keep-past}
 use borrow.Author.Needs.{needs}
 use Rattle.xml_tags.proofs.keep.Statement.{statement}
 use Rattle.xml_tags.proofs.keep.Tie as tie

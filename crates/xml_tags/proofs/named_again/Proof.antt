@@ -1,7 +1,7 @@
 -- `xml_tags::named_again` meets its contract.
 -- Assumes nothing.
-use Rattle.xml_markup.proofs.Names.{name-ahead}
-use Rattle.xml_tags.proofs.Some.{again-part, again-past}
+use Rattle.xml_names.proofs.Names.{name-ahead}
+use Rattle.xml_attributes.proofs.Some.{again-part, again-past}
 use borrow.Author.Needs.{needs}
 use Rattle.xml_tags.proofs.named_again.Statement.{statement}
 use Rattle.xml_tags.proofs.named_again.Tie as tie

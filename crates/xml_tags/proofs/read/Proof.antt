@@ -5,8 +5,9 @@ use mathlib.Core.Path.{_≡_, refl}
 use native.Mathlib.Omega.{arith}
 use lib.ListN.{length}
 use borrow.Author.Needs.{needs}
-use Rattle.xml_tags.proofs.Parts.{read-name-ahead, read-closed, read-fits, read-falls}
-use Rattle.xml_tags.proofs.Reading.{Brings, Keeps, brings-out, brings-end, brings-more, keeps-out, keeps-end, keeps-more, length-more, count-more}
+use Rattle.xml_attributes.proofs.Parts.{read-name-ahead, read-closed, read-fits, read-falls}
+use Rattle.xml_tags.proofs.Reading.{Brings, brings-out, brings-end, brings-more}
+use Rattle.xml_attributes.proofs.Keeping.{Keeps, keeps-out, keeps-end, keeps-more, length-more, count-more}
 use Rattle.xml_tags.proofs.read.Statement.{statement}
 use Rattle.xml_tags.proofs.read.Tie as tie
 

@@ -1,6 +1,7 @@
 -- `xml_tags::repeats_any` meets its contract.
 -- Assumes nothing.
-use Rattle.xml_tags.proofs.Judged.{part-length, by-places, by-reading}
+use Rattle.xml_attributes.proofs.Keeping.{part-length}
+use Rattle.xml_tags.proofs.Judged.{by-places, by-reading}
 use borrow.Author.Needs.{needs}
 use Rattle.xml_tags.proofs.repeats_any.Statement.{statement}
 use Rattle.xml_tags.proofs.repeats_any.Tie as tie

@@ -4,7 +4,7 @@ use Prim.Native.Nat.{_-_}
 use mathlib.Core.Path.{refl}
 use lib.ListN.{length}
 use borrow.Author.Needs.{needs}
-use Rattle.xml_tags.proofs.Some.{Behind, namedAgain, some-out, some-found, some-next}
+use Rattle.xml_attributes.proofs.Some.{Behind, namedAgain, some-out, some-found, some-next}
 use Rattle.xml_tags.proofs.repeats_few.Statement.{statement}
 use Rattle.xml_tags.proofs.repeats_few.Tie as tie
 

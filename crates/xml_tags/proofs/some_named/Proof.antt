@@ -4,8 +4,8 @@ use Prim.Native.Nat.{_-_}
 use mathlib.Core.Path.{refl}
 use lib.ListN.{length}
 use borrow.Author.Needs.{needs}
-use Rattle.xml_tags.specs.Names.{nameIs}
-use Rattle.xml_tags.proofs.Some.{Behind, some-out, some-found, some-next}
+use Rattle.xml_names.specs.Names.{nameIs}
+use Rattle.xml_attributes.proofs.Some.{Behind, some-out, some-found, some-next}
 use Rattle.xml_tags.proofs.some_named.Statement.{statement}
 use Rattle.xml_tags.proofs.some_named.Tie as tie
 

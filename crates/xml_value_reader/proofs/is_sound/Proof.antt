@@ -1,6 +1,6 @@
 -- `xml_value_reader::is_sound` meets its contract: the first bad byte of the part is its length.
 -- Assumes nothing.
-use Rattle.xml_tags.proofs.Judged.{part-length}
+use Rattle.xml_attributes.proofs.Keeping.{part-length}
 use Rattle.xml_value_reader.proofs.Shown.{sound-part}
 use borrow.Author.Needs.{needs}
 use Rattle.xml_value_reader.proofs.is_sound.Statement.{statement}

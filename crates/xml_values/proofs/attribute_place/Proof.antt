@@ -3,7 +3,7 @@
 use Prim.Native.Nat.{_-_}
 use lib.ListN.{length}
 use borrow.Author.Needs.{needs}
-use Rattle.xml_tags.proofs.Parts.{read-name, read-closed, read-fits, read-falls}
+use Rattle.xml_attributes.proofs.Parts.{read-name, read-closed, read-fits, read-falls}
 use Rattle.xml_values.proofs.Attributes.{Finds, finds-start, finds-out, finds-ended, finds-next, finds-within, finds-long}
 use Rattle.xml_values.proofs.attribute_place.Statement.{statement}
 use Rattle.xml_values.proofs.attribute_place.Tie as tie

@@ -4,7 +4,7 @@ use Prim.Native.Nat.{_-_}
 use mathlib.Core.List.{[], _∷_}
 use lib.ListN.{length}
 use borrow.Author.Needs.{needs}
-use Rattle.xml_tags.proofs.Parts.{read-name, read-fits, read-falls}
+use Rattle.xml_attributes.proofs.Parts.{read-name, read-fits, read-falls}
 use Rattle.xml_values.proofs.Attributes.{Others, others-start, others-out, others-ended, others-found, others-next}
 use Rattle.xml_values.proofs.has_other_attribute.Statement.{statement}
 use Rattle.xml_values.proofs.has_other_attribute.Tie as tie

@@ -1,6 +1,6 @@
 -- `judge_draft::tests::text_is` meets its contract.
 -- Assumes nothing.
-use Rattle.xml_values.proofs.Texts.{plain-text-ahead, plain-text-inside, plain-text-says}
+use Rattle.xml_texts.proofs.Texts.{plain-text-ahead, plain-text-inside, plain-text-says}
 use Rattle.judge_draft.proofs.Values.{text-equals}
 use borrow.Author.Needs.{needs}
 use Rattle.judge_draft.proofs.tests.text_is.Statement.{statement}

@@ -1,7 +1,7 @@
 -- `judge_draft::tests::text_is_empty` meets its contract.
 -- Assumes nothing.
 use Rattle.judge_draft.specs.Drafts.{isEmpty}
-use Rattle.xml_values.proofs.Texts.{plain-text-ahead, plain-text-inside, plain-text-says}
+use Rattle.xml_texts.proofs.Texts.{plain-text-ahead, plain-text-inside, plain-text-says}
 use Rattle.judge_draft.proofs.Values.{text-tested, text-missing}
 use borrow.Author.Needs.{needs}
 use Rattle.judge_draft.proofs.tests.text_is_empty.Statement.{statement}

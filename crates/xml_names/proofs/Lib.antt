@@ -1,0 +1,3 @@
+pub mod ElementNames
+pub mod Names
+pub mod Values

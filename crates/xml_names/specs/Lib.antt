@@ -1,0 +1,5 @@
+pub mod ElementNames
+pub mod Examples
+pub mod Names
+pub mod Unique
+pub mod Values

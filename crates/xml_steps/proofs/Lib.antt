@@ -1,0 +1,4 @@
+pub mod Keeps
+pub mod Names
+pub mod Rows
+pub mod Steps

@@ -1,0 +1,18 @@
+-- `xml_texts::content_at` meets its contract: a piece, as the content sees it.
+-- Assumes nothing.
+use Rattle.xml_texts.proofs.Texts.{is-content}
+use borrow.Author.Needs.{needs}
+use Rattle.xml_texts.proofs.content_at.Statement.{statement}
+use Rattle.xml_texts.proofs.content_at.Tie as tie
+
+piece-requires : tie.Need-piece-requires
+piece-requires c κs = search needs
+
+content-of-requires : tie.Need-content-of-requires
+content-of-requires c κs = search needs
+
+returns : tie.Need-returns
+returns c = search is-content
+
+pub content-at-spec : {M : Type 1} → statement M
+content-at-spec = tie.close (tie.spec piece-requires content-of-requires returns)
