@@ -70,7 +70,7 @@ pub told-start : (s : List ℕ) (d : Reader) (numbers : List ℕ) → (d .at ≡
 told-start s d numbers e =
     (ap (readFrom s) (fresh-reading d numbers e), subst (Sound (length s)) (fresh-reading d numbers e) (fresh-sound (length s)))
 
-part-deep : (count depth : ℕ) → partOf count depth ≡ Inside → 0 < depth
+pub part-deep : (count depth : ℕ) → partOf count depth ≡ Inside → 0 < depth
 part-deep count (suc depth) e = omega arith
 part-deep zero zero e = absurd (let z : _≡_ {A = ℕ} 0 1 = cc in omega arith)
 part-deep (suc count) zero e = absurd (let z : _≡_ {A = ℕ} 0 1 = cc in omega arith)
@@ -144,7 +144,7 @@ module _ (s : List ℕ) (d : Reader) (numbers : List ℕ) (w : Told s d numbers)
             turn-falls s (reading d numbers) (reading d′ numbers′) (next-turn ∙ rw q)
 
 -- ---- what every reading has
-refused-never : {P : Type 0} (s : List ℕ) (r t : Reading) (n : ℕ) → byPiece s r (Refusing n) ≡ on t → P
+pub refused-never : {P : Type 0} (s : List ℕ) (r t : Reading) (n : ℕ) → byPiece s r (Refusing n) ≡ on t → P
 unfolding byPiece
 refused-never s r t n e = never-on (refused n (r .at)) t e
 

@@ -1,4 +1,3 @@
 pub mod Comments
 pub mod AnyCase
 pub mod Instructions
-pub mod Declaration

@@ -1,6 +1,5 @@
 pub mod Comments
 pub mod AnyCase
 pub mod Instructions
-pub mod Declaration
 pub mod Examples
 pub mod Unique

@@ -28,9 +28,6 @@ module _ (s : List ℕ) (at : ℕ) where
   pub space-least : at ≤ spaceEnd s at
   space-least = run-least isSpace s at
 
-  pub space-most : at ≤ length s → spaceEnd s at ≤ length s
-  space-most = run-most isSpace s at
-
   pub name-least : at ≤ nameEnd s at
   unfolding nameEnd
   name-least = pick-case (λ r. at ≤ r) (isNameStart (getD s at 0)) _ _ (λ _. run-least isNameChar s at) (λ _. omega arith)

@@ -16,7 +16,7 @@ use Rattle.xml_markup.specs.declared.Scanned.the-variants.{End as Over, Refused
 use Rattle.xml_names.specs.Names.{spaceEnd}
 use Rattle.xml_markup.specs.Comments.{commentEnd}
 use Rattle.xml_markup.specs.Instructions.{instructionEnd}
-use Rattle.xml_markup.specs.Declaration.{isDeclaration, declarationEnd}
+use Rattle.xml_declaration.specs.Declaration.{isDeclaration, declarationEnd}
 use Rattle.xml_pieces.specs.declared.Kind.{Kind}
 use Rattle.xml_pieces.specs.declared.Kind.the-variants.{Text, Comment, Instruction, Declaration, Start, Empty, End}
 use Rattle.xml_pieces.specs.declared.DocumentPart.the-variants.{After}

@@ -14,9 +14,3 @@ pub record Ordered (rows : List ℕ) (count : ℕ) : Type 0 where
   pub rises : (j k : ℕ) → j < k → k < count → firstOf rows j < firstOf rows k
   pub ends : (k : ℕ) → k < count → firstOf rows k < afterOf rows k
   pub nested : (k : ℕ) → 0 < k → k < count → afterOf rows k ≤ afterOf rows (parentOf rows k)
-
--- what holds of a table after a reading that was not refused: there is a root, and the elements are in order and lie in the document
-pub record Filled (s rows : List ℕ) (count : ℕ) : Type 0 where
-  pub rooted : 0 < count
-  pub ordered : Ordered rows count
-  pub within : (k : ℕ) → k < count → afterOf rows k ≤ length s

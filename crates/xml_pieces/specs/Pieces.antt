@@ -17,7 +17,7 @@ use Rattle.xml_markup.specs.declared.Scanned.the-variants.{End as Over, Refused
 use Rattle.xml_names.specs.Names.{spaceEnd, nameEnd}
 use Rattle.xml_markup.specs.Comments.{commentEnd}
 use Rattle.xml_markup.specs.Instructions.{instructionEnd}
-use Rattle.xml_markup.specs.Declaration.{isDeclaration, declarationEnd}
+use Rattle.xml_declaration.specs.Declaration.{isDeclaration, declarationEnd}
 use Rattle.xml_attributes.specs.declared.Tag.{Tag}
 use Rattle.xml_attributes.specs.declared.Tag.the-variants.{Start as Opens, Empty as Stands, Refused as Malformed}
 use Rattle.xml_tags.specs.Tags.{tagAt}

@@ -89,8 +89,8 @@ fn question(s: &[u8], at: usize) -> Scanned
     ensures { λ r. ⌜ r ≡ questionAt (now (s .entry)) at ⌝ }
 {
     if at == 0 {
-        if xml_markup::is_declaration(s) {
-            return found_as(Kind::Declaration, xml_markup::declaration_end(s));
+        if xml_declaration::is_declaration(s) {
+            return found_as(Kind::Declaration, xml_declaration::declaration_end(s));
         }
         return instruction(xml_markup::instruction_end(s, at));
     }

@@ -37,13 +37,13 @@ at-reference P NoReference = tt
 -- ---- a value
 module _ (s : List ℕ) (q at : ℕ) where
   abbrev Closed : ℕ → Type 0
-  Closed j = (at ≤ j) × (j < length s) × (getD s j 0 ≡ q)
+  Closed j = (at ≤ j) × (j < length s)
 
   value-step : (i : ℕ) → at ≤ i → i < length s → Done Closed (valueStep s q i)
   unfolding valueStep
   value-step i h g =
       pick-case (Done Closed) (eqb (getD s i 0) q) (done (At i)) (pick (eqb (getD s i 0) (code "<")) (done Nothing) (pick (eqb (getD s i 0) (code "&")) (behind (referenceAt s i)) (skip 0)))
-      (λ e. (h, g, eqb-true (getD s i 0) q e))
+      (λ e. (h, g))
       (λ _. pick-case (Done Closed) (eqb (getD s i 0) (code "<")) (done Nothing) (pick (eqb (getD s i 0) (code "&")) (behind (referenceAt s i)) (skip 0)) (λ _. tt)
       (λ _. pick-case (Done Closed) (eqb (getD s i 0) (code "&")) (behind (referenceAt s i)) (skip 0) (λ _. at-reference Closed (referenceAt s i)) (λ _. tt)))
 
@@ -58,9 +58,6 @@ module _ (s : List ℕ) (q at : ℕ) where
 
     pub value-inside : j < length s
     value-inside = (subst (Holds Closed) e value-holds) .1
-
-    pub value-closed : getD s j 0 ≡ q
-    value-closed = (subst (Holds Closed) e value-holds) .2
 
 -- ---- text
 module _ (s : List ℕ) (at : ℕ) (within : at ≤ length s) where

@@ -1,7 +1,7 @@
 -- What bytes say, piece by piece: behind a reference its character's bytes, else the byte itself; never more bytes than there were.
 -- Assumes nothing.
 use mathlib.Core.Path.{_≡_, refl, sym, _∙_, ap}
-use mathlib.Core.Bool.{true, false}
+use mathlib.Core.Bool.{true}
 use mathlib.Core.List.{List, [], _∷_, _++_}
 use Prim.Native.Nat.{ℕ, zero, suc, _+_, _-_, _<_, _≤_}
 use Prim.Native.Char.{code}
@@ -12,7 +12,6 @@ use lib.Seq.{drop-drop}
 use Rattle.text_scan.specs.Choice.{_and_, not}
 use Rattle.text_scan.specs.Lists.{every, begins}
 use Rattle.text_scan.proofs.Tests.{never, and-right}
-use Rattle.text_scan.proofs.Lists.{Every, every-goes, every-stops}
 use Rattle.text_scan.proofs.Within.{drop-here}
 use Rattle.text_encode.specs.Encode.{encoded}
 use Rattle.xml_references.specs.declared.Reference.{Reference}
@@ -83,11 +82,3 @@ plain-same [] e = refl
 plain-same (x ∷ xs) e =
     kept x xs (plain x xs (λ q. never (sym e ∙ ap (λ t. not t and every isPlain xs) (eq-eqb x (code "&") q))))
     ∙ ap (λ r. x ∷ r) (plain-same xs (and-right (isPlain x) (every isPlain xs) e))
-
--- ---- the loop of `plain`
-module _ (s : List ℕ) (i : ℕ) (l : Every isPlain s i) (h : i < length s) where
-  pub plain-goes : (getD s i 0 ≡ code "&" → ⊥) → Every isPlain s (i + 1)
-  plain-goes a = every-goes isPlain s i l true h (rw (ne-eqb (getD s i 0) (code "&") a)) refl
-
-  pub plain-stops : getD s i 0 ≡ code "&" → false ≡ every isPlain s
-  plain-stops a = every-stops isPlain s i l false h (rw (eq-eqb (getD s i 0) (code "&") a)) refl

@@ -1,9 +1,9 @@
--- `xml_markup::setting_end` meets its contract.
+-- `xml_declaration::setting_end` meets its contract.
 -- Assumes nothing.
-use Rattle.xml_markup.proofs.Declaration.{name-fits, value-behind, value-fits, quote-fits, no-space, other-name, no-value, other-value, other-quote, setting-whole}
+use Rattle.xml_declaration.proofs.Declaration.{name-fits, value-behind, value-fits, quote-fits, no-space, other-name, no-value, other-value, other-quote, setting-whole}
 use borrow.Author.Needs.{needs}
-use Rattle.xml_markup.proofs.setting_end.Statement.{statement}
-use Rattle.xml_markup.proofs.setting_end.Tie as tie
+use Rattle.xml_declaration.proofs.setting_end.Statement.{statement}
+use Rattle.xml_declaration.proofs.setting_end.Tie as tie
 
 space-end-requires : tie.Need-space-end-requires
 space-end-requires c κs = search needs

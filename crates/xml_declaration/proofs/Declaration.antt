@@ -20,12 +20,12 @@ use Rattle.text_scan.proofs.Within.{inside}
 use Rattle.text_scan.proofs.Lists.{text-fits}
 use Rattle.text_scan.proofs.Ending.{Within}
 use Rattle.xml_names.proofs.Names.{space-least}
 use Rattle.xml_markup.proofs.AnyCase.{any-fits}
 use Rattle.xml_names.proofs.Values.{value-within}
 use Rattle.xml_markup.specs.AnyCase.{standsAnyCase}
 use Rattle.xml_names.specs.Names.{isSpace, spaceEnd}
 use Rattle.xml_names.specs.Values.{valueStart}
-use Rattle.xml_markup.specs.Declaration.{isDeclaration, standsIn, valued, settingEnd, versionEnd, encodingEnd, standaloneEnd, closed, versioned, declarationEnd}
+use Rattle.xml_declaration.specs.Declaration.{isDeclaration, standsIn, valued, settingEnd, versionEnd, encodingEnd, standaloneEnd, closed, versioned, declarationEnd}
 
 -- ---- a text as it is, or in any case
 module _ (t s : List ℕ) (at : ℕ) (any r : Bool) where

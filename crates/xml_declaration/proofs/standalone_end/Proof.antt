@@ -1,9 +1,9 @@
--- `xml_markup::standalone_end` meets its contract.
+-- `xml_declaration::standalone_end` meets its contract.
 -- Assumes nothing.
-use Rattle.xml_markup.proofs.Declaration.{standalone-yes, standalone-no}
+use Rattle.xml_declaration.proofs.Declaration.{standalone-yes, standalone-no}
 use borrow.Author.Needs.{needs}
-use Rattle.xml_markup.proofs.standalone_end.Statement.{statement}
-use Rattle.xml_markup.proofs.standalone_end.Tie as tie
+use Rattle.xml_declaration.proofs.standalone_end.Statement.{statement}
+use Rattle.xml_declaration.proofs.standalone_end.Tie as tie
 
 slice-aggregate-setting-end : tie.Need-slice-aggregate-setting-end
 slice-aggregate-setting-end c = search needs

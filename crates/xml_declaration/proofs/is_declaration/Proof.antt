@@ -1,9 +1,9 @@
--- `xml_markup::is_declaration` meets its contract.
+-- `xml_declaration::is_declaration` meets its contract.
 -- Assumes nothing.
-use Rattle.xml_markup.proofs.Declaration.{declaration-short, declaration-begins, declaration-other}
+use Rattle.xml_declaration.proofs.Declaration.{declaration-short, declaration-begins, declaration-other}
 use borrow.Author.Needs.{needs}
-use Rattle.xml_markup.proofs.is_declaration.Statement.{statement}
-use Rattle.xml_markup.proofs.is_declaration.Tie as tie
+use Rattle.xml_declaration.proofs.is_declaration.Statement.{statement}
+use Rattle.xml_declaration.proofs.is_declaration.Tie as tie
 
 returns : tie.Need-returns
 returns c = search declaration-short

@@ -1,9 +1,9 @@
--- `xml_markup::declaration_end` meets its contract.
+-- `xml_declaration::declaration_end` meets its contract.
 -- Assumes nothing.
-use Rattle.xml_markup.proofs.Declaration.{close-fits, no-declaration, no-version, no-close, declaration-whole}
+use Rattle.xml_declaration.proofs.Declaration.{close-fits, no-declaration, no-version, no-close, declaration-whole}
 use borrow.Author.Needs.{needs}
-use Rattle.xml_markup.proofs.declaration_end.Statement.{statement}
-use Rattle.xml_markup.proofs.declaration_end.Tie as tie
+use Rattle.xml_declaration.proofs.declaration_end.Statement.{statement}
+use Rattle.xml_declaration.proofs.declaration_end.Tie as tie
 
 slice-aggregate-text-at : tie.Need-slice-aggregate-text-at
 slice-aggregate-text-at c = search needs

@@ -1,9 +1,9 @@
--- `xml_markup::text_in_at` meets its contract.
+-- `xml_declaration::text_in_at` meets its contract.
 -- Assumes nothing.
-use Rattle.xml_markup.proofs.Declaration.{in-any-case, in-its-case}
+use Rattle.xml_declaration.proofs.Declaration.{in-any-case, in-its-case}
 use borrow.Author.Needs.{needs}
-use Rattle.xml_markup.proofs.text_in_at.Statement.{statement}
-use Rattle.xml_markup.proofs.text_in_at.Tie as tie
+use Rattle.xml_declaration.proofs.text_in_at.Statement.{statement}
+use Rattle.xml_declaration.proofs.text_in_at.Tie as tie
 
 text-any-case-at-requires : tie.Need-text-any-case-at-requires
 text-any-case-at-requires c κs = search needs

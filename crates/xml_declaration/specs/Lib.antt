@@ -1,0 +1,3 @@
+pub mod Declaration
+pub mod Examples
+pub mod Unique
