@@ -10,8 +10,8 @@ use Rattle.text_scan.specs.Bytes.{text}
 use Rattle.table_lines.specs.Lines.{Row, rowsAt}
 use Rattle.table_file.specs.Accepted.{Tables}
 use Rattle.table_rows.specs.Rows.{someRow, isCode, isName, isDocument, isVersion, isKeyElsewhere, isOtherKey}
-use Rattle.table_index.specs.declared.Keys.{Keys}
-use Rattle.table_index.specs.SetKeys.{keysOf}
+use Rattle.table_sets.specs.declared.Keys.{Keys}
+use Rattle.table_sets.specs.SetKeys.{keysOf}
 use Rattle.xml_values.specs.Attributes.{attributeOf}
 use Rattle.xml_values.specs.Texts.{textOf}
 use Rattle.judge_paths.specs.declared.DocumentType.{DocumentType}

@@ -11,8 +11,8 @@ ghost use Rattle.judge_answers.specs.Served.{CodesServed, NamesServed, K
 use judge_draft::Demand;
 use judge_draft::first_byte;
 use judge_paths::DocumentType;
-use table_index::Keys;
-use table_rows::Question;
+use table_index::Lookup;
+use table_sets::Keys;
 use xml_values::Place;
 
 // Where the rows of each section of a tables file stand, and how many there are; the setId whose keys in the history are indexed, where its first
@@ -50,8 +50,8 @@ fn has_code_decoded(
     let value0 = xml_values::attribute(document, at0, b"code", &mut room0);
     let value1 = xml_values::attribute(document, at0, b"codeSystem", &mut room1);
     let value2 = xml_values::attribute(document, at0, b"displayName", &mut room2);
-    table_index::some_row(
-        Question::Code,
+    table_search::some_row(
+        Lookup::Code,
         tables,
         places.codes,
         places.ncodes,
@@ -80,8 +80,8 @@ fn has_code(
     if let Place::At(a, e) = xml_values::plain_attribute(document, first, b"code") {
         if let Place::At(b, f) = xml_values::plain_attribute(document, first, b"codeSystem") {
             if let Place::At(c, g) = xml_values::plain_attribute(document, first, b"displayName") {
-                return table_index::some_row(
-                    Question::Code,
+                return table_search::some_row(
+                    Lookup::Code,
                     tables,
                     places.codes,
                     places.ncodes,
@@ -117,8 +117,8 @@ fn has_name_decoded(
     let at1 = first_byte(document, elements, roles, kind, k);
     let value0 = xml_values::attribute(document, at0, b"extension", &mut room0);
     let value1 = xml_values::text(document, at1, &mut room1);
-    table_index::some_row(
-        Question::Name,
+    table_search::some_row(
+        Lookup::Name,
         tables,
         places.names,
         places.nnames,
@@ -148,8 +148,8 @@ fn has_name(
     let at1 = first_byte(document, elements, roles, kind, k);
     if let Place::At(a, e) = xml_values::plain_attribute(document, at0, b"extension") {
         if let Place::At(b, f) = xml_values::plain_text(document, at1) {
-            return table_index::some_row(
-                Question::Name,
+            return table_search::some_row(
+                Lookup::Name,
                 tables,
                 places.names,
                 places.nnames,
@@ -226,8 +226,8 @@ fn has_key_decoded(
     let value0 = xml_values::attribute(document, at0, b"extension", &mut room0);
     let value1 = xml_values::attribute(document, at1, b"root", &mut room1);
     if s == places.set {
-        return table_index::some_row(
-            Question::KeyElsewhere,
+        return table_search::some_row(
+            Lookup::KeyElsewhere,
             tables,
             places.history,
             places.nhistory,
@@ -268,8 +268,8 @@ fn has_key_of(
     if let Place::At(a, e) = xml_values::plain_attribute(document, at0, b"extension") {
         if let Place::At(b, f) = xml_values::plain_attribute(document, at1, b"root") {
             if s == places.set {
-                return table_index::some_row(
-                    Question::KeyElsewhere,
+                return table_search::some_row(
+                    Lookup::KeyElsewhere,
                     tables,
                     places.history,
                     places.nhistory,
@@ -391,7 +391,7 @@ fn has_other_key_decoded(
     let value1 = xml_values::attribute(document, at1, b"extension", &mut room1);
     if 0 < keys.len() {
         if s == places.set {
-            return table_index::has_other_key(
+            return table_sets::has_other_key(
                 tables,
                 places.history,
                 places.nhistory,
@@ -433,7 +433,7 @@ fn has_other_key(
         if let Place::At(b, f) = xml_values::plain_attribute(document, at1, b"extension") {
             if 0 < keys.len() {
                 if s == places.set {
-                    return table_index::has_other_key(
+                    return table_sets::has_other_key(
                         tables,
                         places.history,
                         places.nhistory,

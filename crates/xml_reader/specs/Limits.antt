@@ -25,3 +25,10 @@ nameLimit = 64
 
 abbrev pub valueLimit : ℕ
 valueLimit = 4096
+
+-- rows of a section of the tables file; bytes of a row before its line feed
+abbrev pub rowsLimit : ℕ
+rowsLimit = 65535
+
+abbrev pub rowLimit : ℕ
+rowLimit = 4096

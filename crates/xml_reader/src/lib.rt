@@ -25,6 +25,10 @@ impl Reader {
     pub const NAME: usize = 64;
 
     pub const VALUE: usize = 4096;
+    // Rows of a section of the tables file, and bytes of a row before its line feed.
+    pub const ROWS: usize = 65535;
+
+    pub const ROW: usize = 4096;
 
     // A reader at a document's first byte.
     pub fn new() -> Self
