@@ -3,7 +3,7 @@
 ghost use mathlib.Core.Path.{_≡_};
 ghost use Rattle.text_scan.specs.Bytes.{text};
 ghost use Rattle.table_lines.specs.Lines.{rowsAt};
-ghost use Rattle.table_rows.specs.Rows.{someRow, isCode, isName, isDocument, isVersion, isKeyElsewhere, isOtherKey};
+ghost use Rattle.table_rows.specs.Rows.{someRow, isCode, isRegistered, isDocument, isVersion, isKeyElsewhere, isOtherKey};
 ghost use Rattle.judge_draft.specs.Drafts.{draft, attribute, said};
 ghost use Rattle.judge_header.specs.Header.{requestCode};
 ghost use Rattle.judge_answers.specs.Answers.{typeCode, tablesAt, isBroken};
@@ -109,7 +109,7 @@ fn has_name_decoded(
     k: usize,
 ) -> bool
     requires { ⌜ NamesServed (now tables) places (now names) ⌝ }
-    ensures { λ r. ⌜ r ≡ someRow (isName (attribute (draft (now (document .entry)) (now (elements .entry)) (now (roles .entry)) kind) i (text "extension")) (said (draft (now (document .entry)) (now (elements .entry)) (now (roles .entry)) kind) k)) (rowsAt (now (tables .entry)) (places .names) (places .nnames)) ⌝ }
+    ensures { λ r. ⌜ r ≡ someRow (isRegistered (attribute (draft (now (document .entry)) (now (elements .entry)) (now (roles .entry)) kind) i (text "extension")) (said (draft (now (document .entry)) (now (elements .entry)) (now (roles .entry)) kind) k)) (rowsAt (now (tables .entry)) (places .names) (places .nnames)) ⌝ }
 {
     let mut room0 = [0u8; 4096];
     let mut room1 = [0u8; 4096];
@@ -142,7 +142,7 @@ fn has_name(
     k: usize,
 ) -> bool
     requires { ⌜ NamesServed (now tables) places (now names) ⌝ }
-    ensures { λ r. ⌜ r ≡ someRow (isName (attribute (draft (now (document .entry)) (now (elements .entry)) (now (roles .entry)) kind) i (text "extension")) (said (draft (now (document .entry)) (now (elements .entry)) (now (roles .entry)) kind) k)) (rowsAt (now (tables .entry)) (places .names) (places .nnames)) ⌝ }
+    ensures { λ r. ⌜ r ≡ someRow (isRegistered (attribute (draft (now (document .entry)) (now (elements .entry)) (now (roles .entry)) kind) i (text "extension")) (said (draft (now (document .entry)) (now (elements .entry)) (now (roles .entry)) kind) k)) (rowsAt (now (tables .entry)) (places .names) (places .nnames)) ⌝ }
 {
     let at0 = first_byte(document, elements, roles, kind, i);
     let at1 = first_byte(document, elements, roles, kind, k);

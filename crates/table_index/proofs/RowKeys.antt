@@ -11,10 +11,10 @@ use mir.Val.{Fits}
 use mir.Syntax.{w32}
 use Rattle.text_scan.specs.Choice.{pick, _or_, not}
 use Rattle.text_scan.proofs.Tests.{never}
-use Rattle.table_lines.specs.Lines.{Row, other, isTab, field, fieldsOf, lineAt}
-use Rattle.table_lines.proofs.Runs.{front, before}
+use Rattle.table_lines.specs.Lines.{Row, other, isTab, field, fieldsOf, lineAt, front}
+use Rattle.table_lines.proofs.Runs.{before}
 use Rattle.table_lines.proofs.Fields.{first-more, later-more}
-use Rattle.sort_compare.specs.Fields.{isFeed, part, after, shown, skipPlace, fieldsFrom, coded, rowKey}
+use Rattle.sort_compare.specs.Fields.{isFeed, frontField, after, shown, skipPlace, fieldsFrom, coded, rowKey}
 use Rattle.sort_compare.specs.Keys.{keyAt}
 use Rattle.sort_compare.proofs.Skipping.{drop-skip, skip-low}
 use Rattle.table_index.specs.declared.Lookup.{Lookup}
@@ -31,12 +31,12 @@ empty-row : (k : ℕ) → field ([] ∷ []) k ≡ []
 empty-row zero = refl
 empty-row (suc k) = refl
 
-first : (bs : List ℕ) → field (rowIn bs) 0 ≡ part true bs
-unfolding fieldsOf front part
+first : (bs : List ℕ) → field (rowIn bs) 0 ≡ frontField true bs
+unfolding fieldsOf frontField front
 first [] = refl
 first (b ∷ bs) = go (isTab b) (isFeed b) refl (first bs)
   where
-    go : (t u : Bool) → isTab b ≡ t → field (rowIn bs) 0 ≡ part true bs → field (fieldsOf (pick (not u) (b ∷ front (other 10) bs) [])) 0 ≡ pick (t or u) [] (b ∷ part true bs)
+    go : (t u : Bool) → isTab b ≡ t → field (rowIn bs) 0 ≡ frontField true bs → field (fieldsOf (pick (not u) (b ∷ front (other 10) bs) [])) 0 ≡ pick (not (t or u)) (b ∷ frontField true bs) []
     go true true e q = refl
     go true false e q = rw e
     go false true e q = refl
@@ -59,7 +59,7 @@ abbrev afters : ℕ → List ℕ → List ℕ
 afters zero bs = bs
 afters (suc k) bs = afters k (after bs)
 
-field-in : (k : ℕ) (bs : List ℕ) → field (rowIn bs) k ≡ part true (afters k bs)
+field-in : (k : ℕ) (bs : List ℕ) → field (rowIn bs) k ≡ frontField true (afters k bs)
 field-in zero bs = first bs
 field-in (suc k) bs = later k bs ∙ field-in k (after bs)
 

@@ -12,6 +12,11 @@ use Rattle.text_scan.specs.Lists.{every, runFrom}
 abbrev pub other : ℕ → ℕ → Bool
 other b x = not (eqb x b)
 
+-- the bytes in front of the first that fails a test
+unfoldable pub front : (ℕ → Bool) → List ℕ → List ℕ
+front p [] = []
+front p (x ∷ xs) = pick (p x) (x ∷ front p xs) []
+
 -- ---- lines
 -- the place of the line feed that ends the line at i, or the length where there is none
 abbrev pub lineEnd : List ℕ → ℕ → ℕ

@@ -11,7 +11,7 @@ use Rattle.text_scan.specs.Lists.{pairs}
 use Rattle.text_scan.proofs.Tests.{and-true}
 use Rattle.text_facts.specs.Strings.{equal, equalInAnyCase}
 use Rattle.table_lines.specs.Lines.{Row, field}
-use Rattle.table_rows.specs.Rows.{someRow, isCode, isName, isKeyElsewhere, isAsked}
+use Rattle.table_rows.specs.Rows.{someRow, isCode, isRegistered, isKeyElsewhere, isAsked}
 use Rattle.sort_compare.specs.Fields.{shown, coded}
 use Rattle.table_index.specs.declared.Lookup.{Lookup}
 use Rattle.table_index.specs.Indexed.{asks, keepsRow, keyFrom, keyOf, hasKey}
@@ -53,7 +53,7 @@ and-turned true false false = refl
 and-turned false b c = refl
 
 asked-key : (q : Lookup) (a b c : List ℕ) (row : Row) → isAsked (asks q) a b c row ≡ hasKey q (keepsRow q a c) (keyFrom q a b c) row
-unfolding isAsked isCode isName isKeyElsewhere keepsRow keyFrom keyOf equal shown
+unfolding isAsked isCode isRegistered isKeyElsewhere keepsRow keyFrom keyOf equal shown
 asked-key Lookup.Code a b c row =
     let f = shown true (field row 2) in
     let g = shown true c in

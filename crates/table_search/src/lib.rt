@@ -10,7 +10,7 @@ ghost use Rattle.text_scan.specs.Lists.{some};
 ghost use Rattle.table_lines.specs.Lines.{rowsAt};
 ghost use Rattle.table_rows.specs.Rows.{someRow, isAsked};
 ghost use Rattle.sort_compare.specs.Order.{order};
-ghost use Rattle.sort_compare.specs.Fields.{part, shown, coded, rowKey};
+ghost use Rattle.sort_compare.specs.Fields.{frontField, shown, coded, rowKey};
 ghost use Rattle.sort_compare.specs.Keys.{keyAt};
 ghost use Rattle.sort_places.specs.Sorting.{rising};
 ghost use Rattle.table_index.specs.declared.Lookup.{Lookup};
@@ -21,7 +21,7 @@ use table_rows::Question;
 
 // Which comes first: the field at a place, or a value.
 fn compare_value(s: &[u8], at: usize, value: &[u8], any: bool) -> Order
-    ensures { λ r. ⌜ r ≡ order (shown any (part true (drop at (now (s .entry))))) (shown any (now (value .entry))) ⌝ }
+    ensures { λ r. ⌜ r ≡ order (shown any (frontField true (drop at (now (s .entry))))) (shown any (now (value .entry))) ⌝ }
 {
     sort_compare::compare_value(sort_compare::rest(s, at), value, any)
 }
