@@ -16,8 +16,9 @@ use Rattle.sort_compare.specs.declared.Order.{Order}
 use Rattle.sort_compare.specs.declared.Order.the-variants.{Less, Same, More}
 use Rattle.sort_compare.specs.declared.By.{By}
 use Rattle.sort_compare.specs.Order.{order, thenBy}
-use Rattle.sort_compare.specs.Fields.{isFeed, ends, alikeFrom, frontField, after, shown, unitOf, nextPlace, skipPlace, fieldsFrom, coded, rowKey}
+use Rattle.sort_compare.specs.Fields.{isFeed, ends, frontField, after, shown, nextPlace, skipPlace, fieldsFrom, coded, rowKey}
 use Rattle.sort_compare.specs.Keys.{keyAt}
+use Rattle.sort_compare.specs.Units.{alikeFrom, unitOf}
 use Rattle.sort_compare.proofs.Ordering.{compared, by-less, by-more, by-rest}
 use Rattle.sort_compare.proofs.Parts.{shownByte, shown-nil, shown-cons, part-goes, unit-inside, unit-goes, unit-is, unit-none, same-byte, first-inside, second-inside, first-on, second-on, alike-first, alike-second}
 use Rattle.sort_compare.proofs.Skipping.{drop-skip}

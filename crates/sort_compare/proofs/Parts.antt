@@ -17,7 +17,8 @@ use Rattle.table_lines.specs.Lines.{isTab, front}
 use Rattle.sort_compare.specs.declared.Order.{Order}
 use Rattle.sort_compare.specs.declared.Order.the-variants.{Less, Same, More}
 use Rattle.sort_compare.specs.Order.{order}
-use Rattle.sort_compare.specs.Fields.{ends, alikeFrom, frontField, shown, unitOf, nextPlace}
+use Rattle.sort_compare.specs.Fields.{ends, frontField, shown, nextPlace}
+use Rattle.sort_compare.specs.Units.{alikeFrom, unitOf}
 use Rattle.sort_compare.proofs.Ordering.{by-less, by-more, by-rest}
 
 -- ---- what follows a place

@@ -4,7 +4,7 @@ use Prim.Native.Nat.{ℕ, zero, suc, _+_}
 use Prim.Native.Char.{code}
 use mathlib.Core.Bool.{Bool, true, false}
 use mathlib.Core.List.{List, [], _∷_, _++_, map}
-use lib.Dec.{eqb, ltb}
+use lib.Dec.{eqb}
 use lib.ListN.{length, drop, getD}
 use Rattle.text_scan.specs.Choice.{pick, _or_, _and_, not}
 use Rattle.text_scan.specs.Bytes.{lower}
@@ -16,12 +16,6 @@ isFeed b = eqb b (code "\n")
 -- a byte before which a part ends that is cut
 abbrev pub ends : Bool → ℕ → Bool
 ends cut b = cut and (isTab b or isFeed b)
-
--- how many bytes in front of two strings are the same and above 13
-unfoldable pub alikeFrom : List ℕ → List ℕ → ℕ
-alikeFrom [] ys = 0
-alikeFrom (x ∷ xs) [] = 0
-alikeFrom (x ∷ xs) (y ∷ ys) = pick (eqb x y and ltb 13 x) (suc (alikeFrom xs ys)) 0
 
 -- all bytes, or only the field in front of them: up to a tab or a line feed
 unfoldable pub frontField : Bool → List ℕ → List ℕ
@@ -44,11 +38,6 @@ skipPlace s i = nextPlace s (i + length (frontField true (drop i s)))
 unfoldable pub shown : Bool → List ℕ → List ℕ
 shown true bs = map lower bs
 shown false bs = bs
-
--- the first byte and one more, and 0 where there is none
-abbrev pub unitOf : List ℕ → ℕ
-unitOf [] = 0
-unitOf (b ∷ bs) = suc b
 
 -- n fields in front of a byte string; the one with which `folded` are left in any case of letters
 unfoldable pub fieldsFrom : ℕ → ℕ → List ℕ → List (List ℕ)

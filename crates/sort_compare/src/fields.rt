@@ -5,7 +5,8 @@ ghost use mathlib.Core.List.{[], _∷_};
 ghost use Prim.Native.Nat.{_+_};
 ghost use lib.ListN.{length, drop};
 ghost use Rattle.sort_compare.specs.Order.{order};
-ghost use Rattle.sort_compare.specs.Fields.{ends, alikeFrom, frontField, shown, unitOf, nextPlace, skipPlace, rowKey};
+ghost use Rattle.sort_compare.specs.Fields.{ends, frontField, shown, nextPlace, skipPlace, rowKey};
+ghost use Rattle.sort_compare.specs.Units.{alikeFrom, unitOf};
 use crate::Order;
 
 // What follows place i.

@@ -1,5 +1,5 @@
 -- What it means that the rows of a section are indexed: their places stand in a run in order, and a key is had by some row exactly where some place
--- in the run has it. No definition of document 01: it is what `fill` promises and `table_search::some_row` asks for, and changes no answer.
+-- in the run has it. No definition of document 01: it is what `fill` promises and `some_row` of table_search asks for, and changes no answer.
 -- Assumes nothing.
 use Prim.Native.Nat.{ℕ, _<_, _≤_, _^_}
 use mathlib.Core.Bool.{Bool, true}

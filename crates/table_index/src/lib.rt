@@ -104,7 +104,7 @@ fn arrange(q: Lookup, s: &[u8], run: &mut [u32])
 }
 
 // Indexes the rows of a section. For the keys of a history, a is the type and c the set id that the questions have; else they say nothing. What is
-// left in the run is for `table_search::some_row` alone.
+// left in the run is for `some_row` of table_search alone.
 pub fn fill(q: Lookup, s: &[u8], at: usize, count: usize, a: &[u8], c: &[u8], index: &mut [u32])
     requires { ⌜ Room (now s) count (now index) ⌝ }
     ensures { λ _. ⌜ Indexed q (keepsRow q (now (a .entry)) (now (c .entry))) (now (s .entry)) at count (now (index .exit)) ⌝ }

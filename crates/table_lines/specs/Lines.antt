@@ -70,13 +70,3 @@ areFields (f ∷ fs) = isField f and areFields fs
 -- the number of fields, or 0 where one of them is no field
 unfoldable pub fieldCount : List ℕ → ℕ
 fieldCount line = pick (areFields (fieldsOf line)) (length (fieldsOf line)) 0
-
--- the place where the field of number k starts, and else the end, in what follows place i of a line
-unfoldable pub fieldStart : ℕ → ℕ → List ℕ → ℕ
-fieldStart zero i xs = i
-fieldStart (suc k) i [] = i
-fieldStart (suc k) i (b ∷ bs) = pick (isTab b) (fieldStart k (i + 1) bs) (fieldStart (suc k) (i + 1) bs)
-
--- the place of the tab that ends the field at i, or the end
-abbrev pub fieldEnd : List ℕ → ℕ → ℕ
-fieldEnd line i = runFrom (other (code "\t")) line i
