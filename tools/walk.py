@@ -227,12 +227,15 @@ def filled(text, width=200):
     return "\n".join(out)
 
 
-# ---- a repository of the model and of the crates that it needs; what is proved of those is kept for the next run
+# ---- a repository of the model and of the crates that it needs; what is proved of those here or in an earlier run is not proved again
 shutil.rmtree(repo / "crates", ignore_errors=True)
 (repo / "crates" / name / "src").mkdir(parents=True)
 for n in needed[1:]:
     (repo / "crates" / n).symlink_to((pathlib.Path("crates") / n).resolve())
 (repo / "crates.txt").write_text("".join(f"{n}: {' '.join(deps[n])}\n" for n in needed))
+for part in ("stamp", "rlib", "log"):
+    if (pathlib.Path("target") / part).is_dir():
+        shutil.copytree(pathlib.Path("target") / part, repo / "target" / part, dirs_exist_ok=True)
 proofs = crate / "proofs"
 for kind, fn in todo:
     model(kind, fn)

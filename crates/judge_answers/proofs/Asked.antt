@@ -9,9 +9,9 @@ use Rattle.text_scan.specs.Choice.{not}
 use Rattle.text_scan.specs.Bytes.{text}
 use Rattle.table_lines.specs.Lines.{Row, rowsAt}
 use Rattle.table_file.specs.Accepted.{Tables}
-use Rattle.table_rows.specs.Rows.{someRow, isCode, isName, isDocument, isVersion, isKeyElsewhere, isOtherKey}
-use Rattle.table_index.specs.declared.Keys.{Keys}
-use Rattle.table_index.specs.SetKeys.{keysOf}
+use Rattle.table_rows.specs.Rows.{someRow, isCode, isRegistered, isDocument, isVersion, isKeyElsewhere, isOtherKey}
+use Rattle.table_sets.specs.declared.Keys.{Keys}
+use Rattle.table_sets.specs.SetKeys.{keysOf}
 use Rattle.xml_values.specs.Attributes.{attributeOf}
 use Rattle.xml_texts.specs.Texts.{textOf}
 use Rattle.judge_paths.specs.declared.DocumentType.{DocumentType}
@@ -36,7 +36,7 @@ module _ (s rows roles : List ℕ) (t : DocumentType) (k at : ℕ) (e : at ≡ f
 
   -- of a second element
   module _ (n from : ℕ) (p : from ≡ first (draft s rows roles t) n) (v w : List ℕ) (r : Bool) where
-    pub name-asked : v ≡ attributeOf s at (text "extension") → w ≡ textOf s from → r ≡ someRow (isName v w) l → r ≡ someRow (isName (attribute (draft s rows roles t) k (text "extension")) (said (draft s rows roles t) n)) l
+    pub name-asked : v ≡ attributeOf s at (text "extension") → w ≡ textOf s from → r ≡ someRow (isRegistered v w) l → r ≡ someRow (isRegistered (attribute (draft s rows roles t) k (text "extension")) (said (draft s rows roles t) n)) l
     name-asked f g h = h ∙ rw (attribute-read s rows roles t k at e (text "extension") v f, text-read s rows roles t n from p w g)
 
     pub version-asked : v ≡ attributeOf s at (text "root") → w ≡ attributeOf s from (text "value") → r ≡ someRow (isVersion v w) l → r ≡ someRow (isVersion (attribute (draft s rows roles t) k (text "root")) (attribute (draft s rows roles t) n (text "value"))) l
@@ -104,7 +104,7 @@ module _ (d : Draft) (s : List ℕ) (p : Places) (x : Demand) (k : ℕ) (r : Boo
   forbids-document e f = f ∙ rw e
 
   module _ (n : ℕ) where
-    pub wants-name : x ≡ NameRow k n → r ≡ someRow (isName (attribute d k (text "extension")) (said d n)) (rowsAt s (p .names) (p .nnames)) → not r ≡ isBroken d (tablesAt s p) x
+    pub wants-name : x ≡ NameRow k n → r ≡ someRow (isRegistered (attribute d k (text "extension")) (said d n)) (rowsAt s (p .names) (p .nnames)) → not r ≡ isBroken d (tablesAt s p) x
     unfolding isBroken
     wants-name e f = rw (e, f)
 

@@ -7,7 +7,7 @@ use Rattle.text_scan.specs.Choice.{not}
 use Rattle.text_scan.specs.Bytes.{text}
 use Rattle.table_lines.specs.Lines.{rowsAt}
 use Rattle.table_file.specs.Accepted.{Tables}
-use Rattle.table_rows.specs.Rows.{someRow, isCode, isName, isDocument, isVersion, isKeyElsewhere, isOtherKey}
+use Rattle.table_rows.specs.Rows.{someRow, isCode, isRegistered, isDocument, isVersion, isKeyElsewhere, isOtherKey}
 use Rattle.judge_paths.specs.declared.DocumentType.{DocumentType}
 use Rattle.judge_paths.specs.declared.DocumentType.the-variants.{Neither, Registration, Request}
 use Rattle.judge_draft.specs.declared.Demand.{Demand}
@@ -39,7 +39,7 @@ isBroken d t (CodeRow k) =
     not
     (someRow (isCode (attribute d k (text "code")) (attribute d k (text "codeSystem")) (attribute d k (text "displayName")))
     (t .codes))
-isBroken d t (NameRow i k) = not (someRow (isName (attribute d i (text "extension")) (said d k)) (t .names))
+isBroken d t (NameRow i k) = not (someRow (isRegistered (attribute d i (text "extension")) (said d k)) (t .names))
 isBroken d t (NoDocument k) = someRow (isDocument (attribute d k (text "root"))) (t .history)
 isBroken d t (NoVersion s k) = someRow (isVersion (attribute d s (text "root")) (attribute d k (text "value"))) (t .history)
 isBroken d t (NoKeyElsewhere k s) =

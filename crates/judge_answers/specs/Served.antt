@@ -5,10 +5,10 @@ use mathlib.Core.List.{List, []}
 use mathlib.Core.Path.{_≡_}
 use lib.ListN.{length}
 use Rattle.text_scan.specs.Bytes.{text}
-use Rattle.table_rows.specs.declared.Question.the-variants.{Code, Name, KeyElsewhere}
-use Rattle.table_index.specs.declared.Keys.{Keys}
+use Rattle.table_index.specs.declared.Lookup.the-variants.{Code, Name, KeyElsewhere}
+use Rattle.table_sets.specs.declared.Keys.{Keys}
 use Rattle.table_index.specs.Indexed.{keepsRow, Serves}
-use Rattle.table_index.specs.SetKeys.{keysOf}
+use Rattle.table_sets.specs.SetKeys.{keysOf}
 use Rattle.judge_draft.specs.Drafts.{Draft, attribute}
 use Rattle.judge_header.specs.Header.{requestCode}
 use Rattle.judge_answers.specs.declared.Places.{Places}

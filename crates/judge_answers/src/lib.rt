@@ -3,7 +3,7 @@
 ghost use mathlib.Core.Path.{_≡_};
 ghost use Rattle.text_scan.specs.Bytes.{text};
 ghost use Rattle.table_lines.specs.Lines.{rowsAt};
-ghost use Rattle.table_rows.specs.Rows.{someRow, isCode, isName, isDocument, isVersion, isKeyElsewhere, isOtherKey};
+ghost use Rattle.table_rows.specs.Rows.{someRow, isCode, isRegistered, isDocument, isVersion, isKeyElsewhere, isOtherKey};
 ghost use Rattle.judge_draft.specs.Drafts.{draft, attribute, said};
 ghost use Rattle.judge_header.specs.Header.{requestCode};
 ghost use Rattle.judge_answers.specs.Answers.{typeCode, tablesAt, isBroken};
@@ -11,8 +11,8 @@ ghost use Rattle.judge_answers.specs.Served.{CodesServed, NamesServed, K
 use judge_draft::Demand;
 use judge_draft::first_byte;
 use judge_paths::DocumentType;
-use table_index::Keys;
-use table_rows::Question;
+use table_index::Lookup;
+use table_sets::Keys;
 use xml_values::Place;
 
 // Where the rows of each section of a tables file stand, and how many there are; the setId whose keys in the history are indexed, where its first
@@ -50,8 +50,8 @@ fn has_code_decoded(
     let value0 = xml_values::attribute(document, at0, b"code", &mut room0);
     let value1 = xml_values::attribute(document, at0, b"codeSystem", &mut room1);
     let value2 = xml_values::attribute(document, at0, b"displayName", &mut room2);
-    table_index::some_row(
-        Question::Code,
+    table_search::some_row(
+        Lookup::Code,
         tables,
         places.codes,
         places.ncodes,
@@ -80,8 +80,8 @@ fn has_code(
     if let Place::At(a, e) = xml_values::plain_attribute(document, first, b"code") {
         if let Place::At(b, f) = xml_values::plain_attribute(document, first, b"codeSystem") {
             if let Place::At(c, g) = xml_values::plain_attribute(document, first, b"displayName") {
-                return table_index::some_row(
-                    Question::Code,
+                return table_search::some_row(
+                    Lookup::Code,
                     tables,
                     places.codes,
                     places.ncodes,
@@ -109,7 +109,7 @@ fn has_name_decoded(
     k: usize,
 ) -> bool
     requires { ⌜ NamesServed (now tables) places (now names) ⌝ }
-    ensures { λ r. ⌜ r ≡ someRow (isName (attribute (draft (now (document .entry)) (now (elements .entry)) (now (roles .entry)) kind) i (text "extension")) (said (draft (now (document .entry)) (now (elements .entry)) (now (roles .entry)) kind) k)) (rowsAt (now (tables .entry)) (places .names) (places .nnames)) ⌝ }
+    ensures { λ r. ⌜ r ≡ someRow (isRegistered (attribute (draft (now (document .entry)) (now (elements .entry)) (now (roles .entry)) kind) i (text "extension")) (said (draft (now (document .entry)) (now (elements .entry)) (now (roles .entry)) kind) k)) (rowsAt (now (tables .entry)) (places .names) (places .nnames)) ⌝ }
 {
     let mut room0 = [0u8; 4096];
     let mut room1 = [0u8; 4096];
@@ -117,8 +117,8 @@ fn has_name_decoded(
     let at1 = first_byte(document, elements, roles, kind, k);
     let value0 = xml_values::attribute(document, at0, b"extension", &mut room0);
     let value1 = xml_texts::text(document, at1, &mut room1);
-    table_index::some_row(
-        Question::Name,
+    table_search::some_row(
+        Lookup::Name,
         tables,
         places.names,
         places.nnames,
@@ -142,14 +142,14 @@ fn has_name(
     k: usize,
 ) -> bool
     requires { ⌜ NamesServed (now tables) places (now names) ⌝ }
-    ensures { λ r. ⌜ r ≡ someRow (isName (attribute (draft (now (document .entry)) (now (elements .entry)) (now (roles .entry)) kind) i (text "extension")) (said (draft (now (document .entry)) (now (elements .entry)) (now (roles .entry)) kind) k)) (rowsAt (now (tables .entry)) (places .names) (places .nnames)) ⌝ }
+    ensures { λ r. ⌜ r ≡ someRow (isRegistered (attribute (draft (now (document .entry)) (now (elements .entry)) (now (roles .entry)) kind) i (text "extension")) (said (draft (now (document .entry)) (now (elements .entry)) (now (roles .entry)) kind) k)) (rowsAt (now (tables .entry)) (places .names) (places .nnames)) ⌝ }
 {
     let at0 = first_byte(document, elements, roles, kind, i);
     let at1 = first_byte(document, elements, roles, kind, k);
     if let Place::At(a, e) = xml_values::plain_attribute(document, at0, b"extension") {
         if let Place::At(b, f) = xml_texts::plain_text(document, at1) {
-            return table_index::some_row(
-                Question::Name,
+            return table_search::some_row(
+                Lookup::Name,
                 tables,
                 places.names,
                 places.nnames,
@@ -226,8 +226,8 @@ fn has_key_decoded(
     let value0 = xml_values::attribute(document, at0, b"extension", &mut room0);
     let value1 = xml_values::attribute(document, at1, b"root", &mut room1);
     if s == places.set {
-        return table_index::some_row(
-            Question::KeyElsewhere,
+        return table_search::some_row(
+            Lookup::KeyElsewhere,
             tables,
             places.history,
             places.nhistory,
@@ -268,8 +268,8 @@ fn has_key_of(
     if let Place::At(a, e) = xml_values::plain_attribute(document, at0, b"extension") {
         if let Place::At(b, f) = xml_values::plain_attribute(document, at1, b"root") {
             if s == places.set {
-                return table_index::some_row(
-                    Question::KeyElsewhere,
+                return table_search::some_row(
+                    Lookup::KeyElsewhere,
                     tables,
                     places.history,
                     places.nhistory,
@@ -391,7 +391,7 @@ fn has_other_key_decoded(
     let value1 = xml_values::attribute(document, at1, b"extension", &mut room1);
     if 0 < keys.len() {
         if s == places.set {
-            return table_index::has_other_key(
+            return table_sets::has_other_key(
                 tables,
                 places.history,
                 places.nhistory,
@@ -433,7 +433,7 @@ fn has_other_key(
         if let Place::At(b, f) = xml_values::plain_attribute(document, at1, b"extension") {
             if 0 < keys.len() {
                 if s == places.set {
-                    return table_index::has_other_key(
+                    return table_sets::has_other_key(
                         tables,
                         places.history,
                         places.nhistory,

@@ -17,7 +17,7 @@ use Rattle.list_findings.specs.Findings.{classOf}
 use Rattle.list_findings.specs.Lists.{stays}
 use Rattle.table_lines.specs.Lines.{Row}
 use Rattle.table_file.specs.Accepted.{Tables, tablesOf}
-use Rattle.table_rows.specs.Rows.{someRow, isCode, isName, isDocument, isVersion, isKeyElsewhere, isOtherKey}
+use Rattle.table_rows.specs.Rows.{someRow, isCode, isRegistered, isDocument, isVersion, isKeyElsewhere, isOtherKey}
 use Rattle.table_join.specs.Joins.{Joins}
 use Rattle.table_join.proofs.Asked.{asked-codes, asked-names, asked-history}
 use Rattle.judge_draft.specs.declared.Demand.{Demand}
@@ -29,7 +29,7 @@ use Rattle.judge_draft.specs.Demands.{brokenIf, demandIf}
 use Rattle.judge_header.specs.declared.Header.{Header}
 use Rattle.judge_listed.specs.Known.{breaks1, breaks2, breaks3, breaks4}
 use Rattle.judge_header.specs.Header.{requestCode, idHolds, setHolds, hasType, versionHolds, breaks5, demand6, breaks7, demand8, breaks9, breaks10, breaks11, demand12, breaks13}
-use Rattle.judge_organisations.specs.Organisations.{isName as isName′, dunsId, dunsHolds, isSaid, rowOf, isLabelerId, isKey, breaks14, breaks15, breaks16, breaks17, demand18, breaks19, breaks20, demand21, demand22}
+use Rattle.judge_organisations.specs.Organisations.{isName, dunsId, dunsHolds, isSaid, rowOf, isLabelerId, isKey, breaks14, breaks15, breaks16, breaks17, demand18, breaks19, breaks20, demand21, demand22}
 use Rattle.judge_contacts.specs.Contacts.{breaks23, breaks24, breaks25, breaks26, breaks27, breaks28, breaks29, breaks30}
 use Rattle.judge_registrations.specs.Registrations.{breaks31, breaks32, breaks33, demand34, breaks35, breaks36, breaks37, breaks38}
 use Rattle.judge_procedures.specs.Procedures.{demands, demandOf}
@@ -67,7 +67,7 @@ module _ (d : Draft) (h : Header) (n : ℕ) where
 
   all-suit : Suit 0 (Nothing ∷ demands d h n)
   unfolding classOf demand6 demand8 demand12 rowOf demand18 demand21 demand22 demand34
-  all-suit = (refl, (document (breaks1 d n), (document (breaks2 d n), (document (breaks3 d n), (document (breaks4 d n), (document (breaks5 d h n), (if-suits Either (is d Id n and idHolds d h) (NoDocument n) refl, (document (breaks7 d h n), (if-suits Both (is d Code n and hasType d h) (CodeRow n) refl, (document (breaks9 d h n), (document (breaks10 d h n), (document (breaks11 d h n), (if-suits Either (is d VersionNumber n and setHolds d h and versionHolds d h) (NoVersion (the (h .set)) n) refl, (document (breaks13 d h n), (document (breaks14 d n), (document (breaks15 d n), (document (breaks16 d n), (document (breaks17 d n), (if-suits Both (isName′ d n and isSaid d n) (rowOf d (parent d n) n) (if-suits Both (dunsHolds d (parent d n)) (NameRow (the (dunsId d (parent d n))) n) refl), (document (breaks19 d n), (document (breaks20 d n), (if-suits Either (isKey d n and setHolds d h) (NoKeyElsewhere n (the (h .set))) refl, (if-suits Either (isLabelerId d n and setHolds d h) (NoOtherKey n (the (h .set))) refl, (document (breaks23 d n), (document (breaks24 d n), (document (breaks25 d n), (document (breaks26 d n), (document (breaks27 d n), (document (breaks28 d n), (document (breaks29 d n), (document (breaks30 d n), (document (breaks31 d n), (document (breaks32 d n), (document (breaks33 d n), (if-suits Both (is d OperationCode n) (CodeRow n) refl, (document (breaks35 d n), (document (breaks36 d n), (document (breaks37 d n), (document (breaks38 d n), tt)))))))))))))))))))))))))))))))))))))))
+  all-suit = (refl, (document (breaks1 d n), (document (breaks2 d n), (document (breaks3 d n), (document (breaks4 d n), (document (breaks5 d h n), (if-suits Either (is d Id n and idHolds d h) (NoDocument n) refl, (document (breaks7 d h n), (if-suits Both (is d Code n and hasType d h) (CodeRow n) refl, (document (breaks9 d h n), (document (breaks10 d h n), (document (breaks11 d h n), (if-suits Either (is d VersionNumber n and setHolds d h and versionHolds d h) (NoVersion (the (h .set)) n) refl, (document (breaks13 d h n), (document (breaks14 d n), (document (breaks15 d n), (document (breaks16 d n), (document (breaks17 d n), (if-suits Both (isName d n and isSaid d n) (rowOf d (parent d n) n) (if-suits Both (dunsHolds d (parent d n)) (NameRow (the (dunsId d (parent d n))) n) refl), (document (breaks19 d n), (document (breaks20 d n), (if-suits Either (isKey d n and setHolds d h) (NoKeyElsewhere n (the (h .set))) refl, (if-suits Either (isLabelerId d n and setHolds d h) (NoOtherKey n (the (h .set))) refl, (document (breaks23 d n), (document (breaks24 d n), (document (breaks25 d n), (document (breaks26 d n), (document (breaks27 d n), (document (breaks28 d n), (document (breaks29 d n), (document (breaks30 d n), (document (breaks31 d n), (document (breaks32 d n), (document (breaks33 d n), (if-suits Both (is d OperationCode n) (CodeRow n) refl, (document (breaks35 d n), (document (breaks36 d n), (document (breaks37 d n), (document (breaks38 d n), tt)))))))))))))))))))))))))))))))))))))))
 
   pub class-suits : (p : ℕ) → suits (classOf p) (demandOf d h p n) ≡ true
   unfolding demandOf
@@ -95,7 +95,7 @@ module _ (d : Draft) (c a b : List ℕ) (j : Joins c a b) where
   wanted-joined Nothing e = refl
   wanted-joined Broken e = never (sym e)
   wanted-joined (CodeRow k) e = no-code (isCode (attribute d k (text "code")) (attribute d k (text "codeSystem")) (attribute d k (text "displayName")))
-  wanted-joined (NameRow i k) e = no-name (isName (attribute d i (text "extension")) (said d k))
+  wanted-joined (NameRow i k) e = no-name (isRegistered (attribute d i (text "extension")) (said d k))
   wanted-joined (NoDocument k) e = never (sym e)
   wanted-joined (NoVersion s k) e = never (sym e)
   wanted-joined (NoKeyElsewhere k s) e = never (sym e)

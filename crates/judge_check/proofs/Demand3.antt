@@ -14,7 +14,7 @@ use Rattle.text_scan.specs.declared.Found.the-variants.{At, Nothing}
 use Rattle.list_findings.specs.declared.Finding.{Finding}
 use Rattle.list_findings.specs.declared.Merged.the-variants.{Findings as MergedFindings, Refused as MergedRefused}
 use Rattle.list_findings.specs.Findings.{width, flat, filled, records}
-use Rattle.list_findings.specs.Merge.{Outcome as Merging, firstBad, merged, firstFault, mergeOf}
+use Rattle.list_findings.specs.Merge.{Merging, firstBad, merged, firstFault, mergeOf}
 use Rattle.list_findings.proofs.Records.{records-flat, length-flat}
 use Rattle.table_file.specs.Accepted.{Tables, tablesOf}
 use Rattle.table_join.specs.Joins.{Joins}

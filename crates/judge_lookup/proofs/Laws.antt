@@ -15,10 +15,10 @@ use Rattle.text_scan.specs.Choice.{_and_}
 use Rattle.text_scan.specs.Bytes.{text}
 use Rattle.text_scan.specs.declared.Found.the-variants.{At, Nothing}
 use Rattle.text_scan.proofs.Tests.{and-left, and-right}
-use Rattle.table_rows.specs.declared.Question.the-variants.{Code, Name, KeyElsewhere}
-use Rattle.table_index.specs.declared.Keys.{Keys}
-use Rattle.table_index.specs.Indexed.{isIndexed, keepsRow, Indexed, Room}
-use Rattle.table_index.specs.SetKeys.{keysOf}
+use Rattle.table_index.specs.declared.Lookup.the-variants.{Code, Name, KeyElsewhere}
+use Rattle.table_sets.specs.declared.Keys.{Keys}
+use Rattle.table_index.specs.Indexed.{keepsRow, Indexed, Room}
+use Rattle.table_sets.specs.SetKeys.{keysOf}
 use Rattle.xml_values.specs.Attributes.{attributeOf}
 use Rattle.judge_paths.specs.declared.DocumentType.{DocumentType}
 use Rattle.judge_paths.specs.declared.DocumentType.the-variants.{Neither, Registration, Request}
@@ -95,22 +95,9 @@ module _ (count : ℕ) (s : List ℕ) (p : Places) (x : List ℕ) (h : isLarge c
   pub keys-fit : Fitting s (p .nhistory) x
   keys-fit = fits (p .nhistory) (leb-true (p .nhistory) 65535 (and-left (leb (p .nhistory) 65535) (ltb 8388608 (count * length s)) last))
 
--- the three questions are indexed, and a run that fits has room
-module _ (s : List ℕ) (n : ℕ) (x : List ℕ) (f : Fitting s n x) where
-  room : Room s n x
-  room = record { long = f .0; few = f .1; small = omega (arith, f .2) }
-
-  pub asks-code : (isIndexed Code ≡ true) × Room s n x
-  unfolding isIndexed
-  asks-code = (refl, room)
-
-  pub asks-name : (isIndexed Name ≡ true) × Room s n x
-  unfolding isIndexed
-  asks-name = (refl, room)
-
-  pub asks-key : (isIndexed KeyElsewhere ≡ true) × Room s n x
-  unfolding isIndexed
-  asks-key = (refl, room)
+-- a run that fits has room
+pub room : (s : List ℕ) (n : ℕ) (x : List ℕ) → Fitting s n x → Room s n x
+room s n x f = record { long = f .0; few = f .1; small = omega (arith, f .2) }
 
 -- ---- the setId
 module _ (d : Draft) (h : Header) (e : h ≡ headerOf d) where

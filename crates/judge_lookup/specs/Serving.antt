@@ -7,7 +7,7 @@ use lib.Dec.{eqb, leb, ltb}
 use lib.ListN.{length}
 use Rattle.text_scan.specs.Choice.{pick, _and_, _or_, between}
 use Rattle.text_scan.specs.Bytes.{text}
-use Rattle.table_index.specs.SetKeys.{keysOf}
+use Rattle.table_sets.specs.SetKeys.{keysOf}
 use Rattle.judge_paths.specs.declared.Role.the-variants.{Code, OrganisationId, OrganisationName, OperationCode}
 use Rattle.judge_paths.specs.Roles.{roleNumber}
 use Rattle.judge_draft.specs.Drafts.{Draft, attribute}

@@ -10,7 +10,7 @@ ghost use Rattle.judge_lookup.specs.Serving.{asks, asking, isLarge, Fitt
 use judge_answers::Places;
 use judge_draft::first_byte;
 use judge_paths::DocumentType;
-use table_rows::Question;
+use table_index::Lookup;
 use text_scan::Found;
 
 // Whether the elements of a role can ask for a row.
@@ -97,7 +97,7 @@ fn fill_keys_of(
     let at = first_byte(document, elements, roles, kind, set);
     let id = xml_values::attribute(document, at, b"root", &mut room);
     table_index::fill(
-        Question::KeyElsewhere,
+        Lookup::KeyElsewhere,
         tables,
         places.history,
         places.nhistory,
@@ -173,7 +173,7 @@ fn told(
     let mut room = [0u8; 4096];
     let at = first_byte(document, elements, roles, kind, set);
     let id = xml_values::attribute(document, at, b"root", &mut room);
-    let keys = table_index::keys_of(tables, places.history, places.nhistory, b"51726-8", id);
+    let keys = table_sets::keys_of(tables, places.history, places.nhistory, b"51726-8", id);
     Places {
         codes: places.codes,
         ncodes: places.ncodes,
@@ -193,7 +193,7 @@ fn serve_rows(tables: &[u8], places: Places, codes: &mut [u32], names: &mut [u32
     ensures { λ _. ⌜ CodesServed (now (tables .entry)) places (now (codes .exit)) × NamesServed (now (tables .entry)) places (now (names .exit)) ⌝ }
 {
     table_index::fill(
-        Question::Code,
+        Lookup::Code,
         tables,
         places.codes,
         places.ncodes,
@@ -202,7 +202,7 @@ fn serve_rows(tables: &[u8], places: Places, codes: &mut [u32], names: &mut [u32
         codes,
     );
     table_index::fill(
-        Question::Name,
+        Lookup::Name,
         tables,
         places.names,
         places.nnames,

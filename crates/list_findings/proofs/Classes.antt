@@ -1,38 +1,40 @@
--- The class of a procedure, from what the code's tests say of its number.
+-- The class of a procedure, by the lists that name it.
 -- Assumes nothing.
-use mathlib.Core.Path.{_≡_}
-use mathlib.Core.Logic.{_⊎_, inl, inr}
-use Prim.Native.Nat.{ℕ, _<_, _≤_}
-use native.Mathlib.Omega.{arith}
-use borrow.Author.Tests.{ne-eqb}
-use Rattle.text_scan.proofs.Within.{inside}
+use mathlib.Core.Path.{_≡_, sym, _∙_}
+use mathlib.Core.Bool.{Bool, true, false}
+use mathlib.Core.List.{List}
+use Prim.Native.Nat.{ℕ, _+_, _<_, _≤_}
+use borrow.Author.Tests.{eq-eqb, ne-eqb}
+use lib.ListN.{length, drop, getD, drop-of-length-le}
+use Rattle.text_scan.proofs.Within.{drop-here}
 use Rattle.list_findings.specs.declared.Class.the-variants.{DocumentOnly, Both, Either}
-use Rattle.list_findings.specs.Findings.{classOf}
+use Rattle.list_findings.specs.Findings.{keptByBoth, keptByEither, isOneOf, classOf}
 
-abbrev OneOf3 : ℕ → ℕ → ℕ → ℕ → Type 0
-OneOf3 a b c p = (p ≡ a) ⊎ ((p ≡ b) ⊎ (p ≡ c))
+-- ---- the walk along a list: it is one of the whole where it is one of what is left
+abbrev pub Left : List ℕ → ℕ → ℕ → Type 0
+Left qs p i = isOneOf qs p ≡ isOneOf (drop i qs) p
 
-pub both : (p : ℕ) → OneOf3 8 18 34 p → Both ≡ classOf p
-unfolding classOf
-both p (inl e) = rw e
-both p (inr (inl e)) = rw e
-both p (inr (inr e)) = rw e
+module _ (qs : List ℕ) (p i : ℕ) (l : Left qs p i) where
+  pub one-found : i < length qs → p ≡ getD qs i 0 → true ≡ isOneOf qs p
+  one-found h e = sym (l ∙ rw (drop-here qs i h, eq-eqb p (getD qs i 0) e))
 
-pub either : (p : ℕ) → (p ≡ 6) ⊎ (p ≡ 12) → Either ≡ classOf p
-unfolding classOf
-either p (inl e) = rw e
-either p (inr e) = rw e
+  pub one-passed : i < length qs → (p ≡ getD qs i 0 → ⊥) → Left qs p (i + 1)
+  one-passed h e = l ∙ rw (drop-here qs i h, ne-eqb p (getD qs i 0) e)
 
--- the numbers of the range in the middle are 21 and 22
-pub either-range : (p : ℕ) → 21 ≤ p → p < 23 → Either ≡ classOf p
-unfolding classOf
-either-range p h g =
-    inside 22 p
-    (λ k. let e : p ≡ 21 = omega arith in rw e)
-    (λ k. let e : p ≡ 22 = omega arith in rw e)
+  pub none-left : length qs ≤ i → false ≡ isOneOf qs p
+  none-left h = sym (l ∙ rw (drop-of-length-le qs h))
 
-pub document-only : (p : ℕ) → (OneOf3 8 18 34 p → ⊥) → ((p ≡ 6) ⊎ (p ≡ 12) → ⊥) → (p ≡ 21 → ⊥) → (p ≡ 22 → ⊥) → DocumentOnly ≡ classOf p
-unfolding classOf
-document-only p h g k l =
-    rw
-    (ne-eqb p 8 (λ e. h (inl e)), ne-eqb p 18 (λ e. h (inr (inl e))), ne-eqb p 34 (λ e. h (inr (inr e))), ne-eqb p 6 (λ e. g (inl e)), ne-eqb p 12 (λ e. g (inr e)), ne-eqb p 21 k, ne-eqb p 22 l)
+-- ---- the class
+module _ (p : ℕ) (t : Bool) (e : t ≡ isOneOf keptByBoth p) where
+  pub both : t ≡ true → Both ≡ classOf p
+  unfolding classOf
+  both f = rw (← e, f)
+
+  module _ (f : t ≡ false) (u : Bool) (g : u ≡ isOneOf keptByEither p) where
+    pub either : u ≡ true → Either ≡ classOf p
+    unfolding classOf
+    either h = rw (← e, f, ← g, h)
+
+    pub document-only : u ≡ false → DocumentOnly ≡ classOf p
+    unfolding classOf
+    document-only h = rw (← e, f, ← g, h)

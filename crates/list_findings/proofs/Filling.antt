@@ -23,7 +23,7 @@ unfolding flat
 one-stored out k r rs =
     let e : k + 1 ≡ suc k = omega arith in
     let f : k + 2 ≡ suc (suc k) = omega arith in
-    let g : k + 3 ≡ suc (suc (suc k)) = omega arith in
+    let g : k + width ≡ suc (suc (suc k)) = omega arith in
     rw (e, f, g)
 
 pub length-stored : (out : List ℕ) (k : ℕ) (r : Finding) → length (stored out k r) ≡ length out

@@ -16,7 +16,7 @@ use Rattle.list_findings.specs.declared.Merged.{Merged}
 use Rattle.list_findings.specs.declared.Merged.the-variants.{Findings, Refused}
 use Rattle.list_findings.specs.Findings.{width, classOf, isValid, records, flat, filled}
 use Rattle.list_findings.specs.Lists.{Ordered, All, Good, has, stays, FaultAt, Least}
-use Rattle.list_findings.specs.Merge.{Met, met, among, verdict, kept, faultOf, merged, firstFault, firstBad, Outcome, refuse, tooMany, mergeOf, IsMerged}
+use Rattle.list_findings.specs.Merge.{Met, met, among, verdict, kept, faultOf, merged, firstFault, firstBad, Merging, refuse, tooMany, mergeOf, IsMerged}
 use Rattle.list_findings.proofs.Order.{irreflexive}
 use Rattle.list_findings.proofs.Records.{length-records, flat-records}
 use Rattle.list_findings.proofs.Lists.{ordered-same}
@@ -92,12 +92,12 @@ merge-self s out e h =
     rw (e, faultless-self (records s), merged-self (records s), n, le-leb (length s / width) (length out / width) g, f)
 
 -- ---- the number answered is the merged list's length, with that list in front; and a refusal leaves the third list as it was
-refuse-case : (P : Outcome → Type 0) (number : ℕ) (f : Found) (out : List ℕ) (o : Outcome) → ((place : ℕ) → P (record { answer = Refused number place; list = out })) → P o → P (refuse number f out o)
+refuse-case : (P : Merging → Type 0) (number : ℕ) (f : Found) (out : List ℕ) (o : Merging) → ((place : ℕ) → P (record { answer = Refused number place; list = out })) → P o → P (refuse number f out o)
 refuse-case P number (At place) out o h k = h place
 refuse-case P number Nothing out o h k = k
 
 -- what holds of a refusal and of the merged list holds of the outcome
-module _ (P : Outcome → Type 0) (a b out : List ℕ) (h : (number place : ℕ) → P (record { answer = Refused number place; list = out })) (k : P (record { answer = Findings (length (merged (records a) (records b))); list = filled (merged (records a) (records b)) out })) where
+module _ (P : Merging → Type 0) (a b out : List ℕ) (h : (number place : ℕ) → P (record { answer = Refused number place; list = out })) (k : P (record { answer = Findings (length (merged (records a) (records b))); list = filled (merged (records a) (records b)) out })) where
   outcome-case : P (mergeOf a b out)
   unfolding mergeOf
   outcome-case =

@@ -8,3 +8,4 @@ pub mod Kept
 pub mod Faults
 pub mod Good
 pub mod Laws
+pub mod Listed

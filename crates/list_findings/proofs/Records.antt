@@ -16,7 +16,7 @@ pub records-here : (s : List ℕ) (k : ℕ) → k + width ≤ length s → recor
 unfolding records
 records-here s k h =
     let e : k + 1 + 1 ≡ k + 2 = omega arith in
-    let f : k + 2 + 1 ≡ k + 3 = omega arith in
+    let f : k + 2 + 1 ≡ k + width = omega arith in
     rw (drop-here s k (omega arith), drop-here s (k + 1) (omega arith), e, drop-here s (k + 2) (omega arith), f)
 
 short : (s : List ℕ) → length s < width → records s ≡ []

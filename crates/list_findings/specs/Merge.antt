@@ -97,12 +97,12 @@ abbrev pub firstFault : List Finding → List Finding → Found
 firstFault a b = faultOf classOf (met a b)
 
 -- ---- the answer, and what the third list holds then
-pub record Outcome : Type 0 where
+pub record Merging : Type 0 where
   pub answer : Merged
   pub list : List ℕ
 
 -- a refusal with this number where something is found, which leaves the third list as it was
-abbrev pub refuse : ℕ → Found → List ℕ → Outcome → Outcome
+abbrev pub refuse : ℕ → Found → List ℕ → Merging → Merging
 refuse number (At place) out otherwise = record { answer = Refused number place; list = out }
 refuse number Nothing out otherwise = otherwise
 
@@ -111,7 +111,7 @@ abbrev pub tooMany : List Finding → List ℕ → Found
 tooMany rs out = pick (leb (length rs) (length out / width)) Nothing (At (length rs))
 
 -- 12 of the first list, 12 of the second, 13, 11, in this order
-unfoldable pub mergeOf : List ℕ → List ℕ → List ℕ → Outcome
+unfoldable pub mergeOf : List ℕ → List ℕ → List ℕ → Merging
 mergeOf a b out =
     refuse 12 (firstBad a) out
     (refuse 12 (firstBad b) out

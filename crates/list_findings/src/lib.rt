@@ -3,13 +3,18 @@ ghost use mathlib.Core.Path.{_≡_};
 ghost use Prim.Native.Nat.{_+_, _-_, _≤_};
 ghost use lib.Dec.{leb};
 ghost use lib.ListN.{length};
-ghost use Rattle.list_findings.specs.Findings.{width, classOf, isValid, precedes, recordAt, stored};
+ghost use Rattle.list_findings.specs.Findings.{width, isOneOf, classOf, isValid, precedes, recordAt, stored};
 
 // The numbers of a record.
 pub const WIDTH: usize = 3;
 
 // The last procedure.
-pub const LAST: u32 = 38;
+pub const LAST_PROCEDURE: u32 = 38;
+
+// The procedures whose findings stay where both lists have them, and where either has; all others stand in both.
+const KEPT_BY_BOTH: [u32; 3] = [8, 18, 34];
+
+const KEPT_BY_EITHER: [u32; 4] = [6, 12, 21, 22];
 
 pub struct Finding {
     pub procedure: u32,
@@ -30,14 +35,32 @@ pub enum Merged {
     Refused(u32, usize),
 }
 
+// Whether a procedure is one of a list.
+fn is_one_of(list: &[u32], procedure: u32) -> bool
+    ensures { λ r. ⌜ r ≡ isOneOf (now (list .entry)) procedure ⌝ }
+{
+    let mut i = 0;
+    while i < list.len() {
+        if procedure == list[i] {
+            return true;
+        }
+        i += 1;
+    }
+    false
+}
+
 pub fn class_of(procedure: u32) -> Class
     ensures { λ r. ⌜ r ≡ classOf procedure ⌝ }
 {
-    match procedure {
-        8 | 18 | 34 => Class::Both,
-        6 | 12 | 21 | 22 => Class::Either,
-        _ => Class::DocumentOnly,
+    let both = KEPT_BY_BOTH;
+    if is_one_of(&both, procedure) {
+        return Class::Both;
     }
+    let either = KEPT_BY_EITHER;
+    if is_one_of(&either, procedure) {
+        return Class::Either;
+    }
+    Class::DocumentOnly
 }
 
 // Whether the procedure is one of 1 to the last, and the start below the end.
@@ -47,7 +70,7 @@ pub fn is_valid(finding: Finding) -> bool
     if finding.procedure < 1 {
         return false;
     }
-    if LAST < finding.procedure {
+    if LAST_PROCEDURE < finding.procedure {
         return false;
     }
     finding.first < finding.after

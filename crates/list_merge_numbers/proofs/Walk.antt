@@ -81,9 +81,9 @@ module _ (a : List ℕ) (i : ℕ) (b : List ℕ) (j : ℕ) where
 
     says : Says a i b j (stepOf (records (drop i a)) i (records (drop j b)) j)
     says =
-        inside (length a) (i + 2)
-        (λ p. inside (length b) (j + 2) (λ q. says-both (omega arith) (omega arith)) (λ q. says-first (omega arith) (omega arith)))
-        (λ p. inside (length b) (j + 2) (λ q. says-second (omega arith) (omega arith)) (λ q. says-over (omega arith) (omega arith)))
+        inside (length a) (i + width - 1)
+        (λ p. inside (length b) (j + width - 1) (λ q. says-both (omega arith) (omega arith)) (λ q. says-first (omega arith) (omega arith)))
+        (λ p. inside (length b) (j + width - 1) (λ q. says-second (omega arith) (omega arith)) (λ q. says-over (omega arith) (omega arith)))
 
     -- the same of a step that was answered
     module _ (s : Stepped) (e : s ≡ stepOf (records (drop i a)) i (records (drop j b)) j) where

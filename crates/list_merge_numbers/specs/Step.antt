@@ -1,4 +1,5 @@
--- One step of the walk over two lists, as the code takes it: what is met first, with the places after it.
+-- One step of the walk over two lists, as the code takes it: what is met first, with the places after it. No definition of document 01: the contract of
+-- the merge names none of these, only those of the functions under it.
 -- Assumes nothing.
 use Prim.Native.Nat.{ℕ, _+_}
 use mathlib.Core.List.{List, [], _∷_}

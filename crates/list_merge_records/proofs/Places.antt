@@ -49,8 +49,8 @@ from-place rs i p =
     let e : i / width * width ≡ i = omega arith in
     rw e at (from-record rs (i / width))
 
--- a record has 12 bytes, and a slice fewer than 2 ^ 63
-pub place-fits : (rs : List Finding) (i : ℕ) → Place rs i → length rs * 12 < 2 ^ 63 → i + width < 2 ^ 64
+-- a record has four bytes for each of its numbers, and a slice fewer than 2 ^ 63
+pub place-fits : (rs : List Finding) (i : ℕ) → Place rs i → length rs * (4 * width) < 2 ^ 63 → i + width < 2 ^ 64
 place-fits rs i p h = let g = p .within in omega (arith, length-flat rs)
 
 -- ---- a step, of the next records
@@ -83,7 +83,7 @@ module _ (a : List Finding) (i : ℕ) (b : List Finding) (j : ℕ) (p : Place a 
   step-is x y s ex ey e = e ∙ rw (ex, ey, from-place a i p, from-place b j q) (decided (drop (i / width) a) i (drop (j / width) b) j)
 
 -- a walk passes a record for each finding that it keeps
-pub count-fits : (a b : List Finding) (i j n : ℕ) → Counts (flat a) (flat b) i j n → length a * 12 < 2 ^ 63 → length b * 12 < 2 ^ 63 → Fits w64 (n + 1)
+pub count-fits : (a b : List Finding) (i j n : ℕ) → Counts (flat a) (flat b) i j n → length a * (4 * width) < 2 ^ 63 → length b * (4 * width) < 2 ^ 63 → Fits w64 (n + 1)
 count-fits a b i j n l h g = omega (arith, length-flat a, length-flat b)
 
 -- ---- the places after a step begin records as well

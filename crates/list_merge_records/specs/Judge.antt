@@ -1,5 +1,5 @@
 -- The merge's answer, of the first bad records of the two lists, what the survey found, and the room for records (document 01, refusals
--- 11 to 13, in their order).
+-- 11 to 13, in their order). No definition of document 01, which is `mergeOf` of list_findings: a private function answers it.
 -- Assumes nothing.
 use Prim.Native.Nat.{ℕ}
 use lib.Dec.{leb}

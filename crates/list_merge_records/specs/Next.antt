@@ -1,4 +1,5 @@
--- The next records of two lists, and what is done with them: the step of the merge (`merging`), of the two heads.
+-- The next records of two lists, and what is done with them: the step of `list_merge_numbers`, of the two heads. No definition of document 01: private
+-- functions answer it.
 -- Assumes nothing.
 use Prim.Native.Nat.{ℕ, _+_, _%_, _≤_}
 use mathlib.Core.Path.{_≡_}

@@ -1,6 +1,6 @@
 // The merge of two lent lists of findings, slices of records that are walked together. A function over such a slice is thin: it reads a
 // record, or hands the slices on. What decides takes values: `decide`, `follows` and `judge`.
-// A place in a list is counted in numbers, three to a record, as in `merging`, so that the steps are the same.
+// A place in a list is counted in numbers, as in `list_merge_numbers`, so that the steps are the same.
 ghost use mathlib.Core.Path.{_≡_};
 ghost use Prim.Native.Nat.{_+_, _/_, _^_, _<_, _≤_};
 ghost use lib.ListN.{length, drop};

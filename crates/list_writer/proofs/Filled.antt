@@ -12,7 +12,12 @@ use Rattle.text_scan.specs.Choice.{pick}
 use Rattle.list_findings.specs.declared.Finding.{Finding}
 use Rattle.list_findings.specs.Findings.{width, flat, filled, stored}
 use Rattle.list_findings.proofs.Filling.{filled-sets, one-stored, length-stored}
-use Rattle.list_writer.specs.Listed.{isFull, listAfter, countAfter, listed}
+use Rattle.list_writer.specs.Listed.{isFull, listAfter, countAfter}
+
+-- records appended one after another
+unfoldable pub listed : List ℕ → ℕ → List Finding → List ℕ
+listed list count [] = list
+listed list count (r ∷ rs) = listed (listAfter list count r) (countAfter list count) rs
 
 -- ---- one record
 module _ (list : List ℕ) (count : ℕ) where

@@ -2,7 +2,7 @@
 -- Assumes nothing.
 use Prim.Native.Nat.{ℕ, _+_, _*_, _/_}
 use mathlib.Core.Bool.{Bool}
-use mathlib.Core.List.{List, [], _∷_}
+use mathlib.Core.List.{List}
 use denote.Ref.{now, at-last}
 use lib.Dec.{leb}
 use lib.ListN.{length}
@@ -25,8 +25,3 @@ countAfter list count = pick (isFull list count) count (count + 1)
 -- the same borrow, at that list, with that count
 abbrev pub appended : Listing → Finding → Listing
 appended w r = record { list = at-last (w .list) (listAfter (now (w .list)) (w .count) r); count = countAfter (now (w .list)) (w .count) }
-
--- records appended one after another
-unfoldable pub listed : List ℕ → ℕ → List Finding → List ℕ
-listed list count [] = list
-listed list count (r ∷ rs) = listed (listAfter list count r) (countAfter list count) rs

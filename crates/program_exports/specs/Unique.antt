@@ -4,7 +4,7 @@ use mathlib.Core.Path.{_≡_}
 use mathlib.Core.List.{List}
 use Prim.Native.Nat.{ℕ}
 use Rattle.text_scan.specs.Unique.{only}
-use Rattle.list_findings.specs.Merge.{Outcome as Merging}
+use Rattle.list_findings.specs.Merge.{Merging}
 use Rattle.judge_check.specs.Check.{Outcome as Checking}
 use Rattle.xml_value_reader.specs.Shown.{ValueOutcome as Reading}
 use Rattle.program_exports.specs.declared.Numbers.{Numbers}

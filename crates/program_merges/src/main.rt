@@ -1,11 +1,19 @@
 // Reads blocks of two lists and a room from its standard input, merges each, and writes the answers in the printed form.
 ghost use mathlib.Core.Path.{_≡_};
-ghost use Prim.Native.Nat.{_+_, _≤_, min};
+ghost use Prim.Native.Nat.{_+_, _*_, _≤_, min};
 ghost use lib.ListN.{length};
+ghost use Rattle.list_findings.specs.Findings.{width};
 use libc::STDIN_FILENO;
 use libc::STDOUT_FILENO;
-use list_findings::Finding;
 use list_findings::Merged;
+
+// The numbers of a list, of 16 records at most, and of a room, of 64.
+const LIST: usize = 16 * list_findings::WIDTH;
+
+const ROOM: usize = 64 * list_findings::WIDTH;
+
+// The bytes of what is printed of a room: a number takes 21 at most.
+const TEXT: usize = 64 + 21 * ROOM;
 
 // The place of the first byte b from `at` on, or the length.
 fn end_of(s: &[u8], at: usize, b: u8) -> usize
@@ -69,72 +77,50 @@ fn numbers(line: &[u8], at: usize, list: &mut [u32]) -> usize
     n
 }
 
-fn write_number(n: u64, end: &[u8]) {
-    io::print_decimal(STDOUT_FILENO, n);
-    io::write_all(STDOUT_FILENO, end);
+// Prints a list of so many findings.
+fn print_list(list: &[u32], n: usize, text: &mut [u8])
+    requires { ⌜ 64 + 21 * length (now list) ≤ length (now text) ⌝ }
+{
+    let k = program_texts::put_list(text, list, n);
+    io::write_all(STDOUT_FILENO, &text[..k]);
 }
 
-fn write_finding(finding: Finding) {
-    write_number(finding.procedure as u64, b" ");
-    write_number(finding.first as u64, b" ");
-    write_number(finding.after as u64, b"\n");
+fn print_refusal(number: u32, place: usize, text: &mut [u8])
+    requires { ⌜ 64 ≤ length (now text) ⌝ }
+{
+    let k = program_texts::put_refusal(text, number, place);
+    io::write_all(STDOUT_FILENO, &text[..k]);
 }
 
-// The first n records of a list, a line each.
-fn write_findings(list: &[u32], n: usize) {
-    let mut k = 0;
-    let mut left = n;
-    while 0 < left {
-        if list_findings::has_record(list, k) {
-            write_finding(list_findings::record_at(list, k));
-            k += list_findings::WIDTH;
-            left -= 1;
-            continue;
-        }
-        return;
-    }
-}
-
-fn write_count(n: usize) {
-    io::write_all(STDOUT_FILENO, b"findings ");
-    write_number(n as u64, b"\n");
-}
-
-fn write_refusal(number: u32, place: usize) {
-    io::write_all(STDOUT_FILENO, b"refused ");
-    write_number(number as u64, b" at ");
-    write_number(place as u64, b"\n");
-}
-
-// Merges two lists into a third, and writes the answer.
-fn merge_block(a: &[u32], b: &[u32], out: &mut [u32]) {
+// Merges two lists into a third, and prints the answer.
+fn merge_block(a: &[u32], b: &[u32], out: &mut [u32])
+    requires { ⌜ length (now out) ≤ 64 * width ⌝ }
+{
     let answer = list_merge_numbers::merge(a, b, out);
+    let mut text = [0u8; TEXT];
     match answer {
-        Merged::Findings(count) => {
-            write_count(count);
-            write_findings(out, count);
-        }
-        Merged::Refused(number, place) => write_refusal(number, place),
+        Merged::Findings(count) => print_list(out, count, &mut text),
+        Merged::Refused(number, place) => print_refusal(number, place, &mut text),
     }
 }
 
 // The numbers of so many records, of 64 at most.
 fn room_for(n: u32) -> usize
-    ensures { λ r. ⌜ r ≤ 192 ⌝ }
+    ensures { λ r. ⌜ r ≤ 64 * width ⌝ }
 {
     if n < 64 {
         return n as usize * list_findings::WIDTH;
     }
-    192
+    ROOM
 }
 
 // The block whose first line starts at i: two lists and a room, a line each.
 fn merge_at(s: &[u8], i: usize)
     requires { ⌜ i ≤ length (now s) ⌝ }
 {
-    let mut a = [0u32; 48];
-    let mut b = [0u32; 48];
-    let mut out = [0u32; 192];
+    let mut a = [0u32; LIST];
+    let mut b = [0u32; LIST];
+    let mut out = [0u32; ROOM];
     let mut room = [0u32; 1];
     let e = end_of(s, i, b'\n');
     let n = numbers(&s[i..e], 2, &mut a);

@@ -130,10 +130,10 @@ module _ (a l b : List ℕ) (i n j k m : ℕ) (e : Told a i l n b j k m) where
 
 -- a record of three numbers has a line of 63 bytes at most
 module _ (l b : List ℕ) (j k : ℕ) (t : Bool) (u : t ≡ leb width (length l - k)) (v : t ≡ true) (h : j + 21 * (length l - k) ≤ length b) where
-  pub line-room : j + 63 ≤ length b
+  pub line-room : j + 21 * width ≤ length b
   line-room = omega (arith, h, there l k t u v)
 
-  pub room-left : (c s : List ℕ) (r : ℕ) → Put b j s r c → r ≤ j + 63 → r + 21 * (length l - (k + width)) ≤ length c
+  pub room-left : (c s : List ℕ) (r : ℕ) → Put b j s r c → r ≤ j + 21 * width → r + 21 * (length l - (k + width)) ≤ length c
   room-left c s r p g = omega (arith, h, there l k t u v, p .long, g)
 
 pub long-still : (a b c s : List ℕ) (j r : ℕ) → length b ≡ length a → Put b j s r c → length c ≡ length a
@@ -154,3 +154,6 @@ pub put-within : (a b t : List ℕ) (r : ℕ) → Put a 0 t r b → r ≤ length
 put-within a b t r p =
     let l : length (take r b) ≡ length t = ap length (p .stands) in
     omega (arith, l, p .ends, length-take r b, min-le-right r (length b))
+
+pub put-long : (a b t : List ℕ) (r : ℕ) → Put a 0 t r b → r ≡ length (take r b)
+put-long a b t r p = sym (length-take-le r b (put-within a b t r p))

@@ -2,6 +2,7 @@
 ghost use Prim.Native.Nat.{_+_, _*_, _≤_};
 ghost use lib.ListN.{length};
 ghost use mathlib.Core.List.{_++_};
+ghost use Rattle.list_findings.specs.Findings.{width};
 ghost use Rattle.table_join.specs.Written.{decimal};
 ghost use Rattle.program_texts.specs.Texts.{Put, findingLine, findingLines, countText, refusalText};
 use list_findings::Finding;
@@ -32,8 +33,8 @@ pub fn put_number(out: &mut [u8], at: usize, n: u64, end: &[u8]) -> usize
 
 // Puts the line of a finding.
 fn put_finding(out: &mut [u8], at: usize, finding: Finding) -> usize
-    requires { ⌜ at + 63 ≤ length (now out) ⌝ }
-    ensures { λ r. ⌜ Put (now (out .entry)) at (findingLine finding) r (now (out .exit)) × (r ≤ at + 63) ⌝ }
+    requires { ⌜ at + 21 * width ≤ length (now out) ⌝ }
+    ensures { λ r. ⌜ Put (now (out .entry)) at (findingLine finding) r (now (out .exit)) × (r ≤ at + 21 * width) ⌝ }
 {
     let first = put_number(out, at, finding.procedure as u64, b" ");
     let after = put_number(out, first, finding.first as u64, b" ");

@@ -16,7 +16,8 @@ use Rattle.text_scan.proofs.Lists.{run-least}
 use Rattle.xml_names.specs.Names.{isNameStart, isNameChar, nameEnd}
 use Rattle.sort_compare.specs.declared.Order.the-variants.{Less, Same, More}
 use Rattle.sort_compare.specs.Order.{order}
-use Rattle.sort_compare.specs.Keys.{nameOf, byteIn}
+use Rattle.sort_compare.specs.Keys.{nameOf}
+use Rattle.sort_compare.specs.Units.{byteIn}
 use Rattle.sort_compare.proofs.Ordering.{begun, begun-same, begun-goes, begun-less, begun-more}
 
 -- ---- the byte, by the tests of the code

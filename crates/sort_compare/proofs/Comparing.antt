@@ -15,14 +15,15 @@ use Rattle.table_lines.specs.Lines.{isTab}
 use Rattle.sort_compare.specs.declared.Order.{Order}
 use Rattle.sort_compare.specs.declared.Order.the-variants.{Less, Same, More}
 use Rattle.sort_compare.specs.declared.By.{By}
-use Rattle.sort_compare.specs.Order.{order, orElse}
-use Rattle.sort_compare.specs.Fields.{isFeed, ends, alikeFrom, part, after, shown, unitOf, nextPlace, skipPlace, fieldsFrom, coded, rowKey}
+use Rattle.sort_compare.specs.Order.{order, thenBy}
+use Rattle.sort_compare.specs.Fields.{isFeed, ends, frontField, after, shown, nextPlace, skipPlace, fieldsFrom, coded, rowKey}
 use Rattle.sort_compare.specs.Keys.{keyAt}
+use Rattle.sort_compare.specs.Units.{alikeFrom, unitOf}
 use Rattle.sort_compare.proofs.Ordering.{compared, by-less, by-more, by-rest}
 use Rattle.sort_compare.proofs.Parts.{shownByte, shown-nil, shown-cons, part-goes, unit-inside, unit-goes, unit-is, unit-none, same-byte, first-inside, second-inside, first-on, second-on, alike-first, alike-second}
 use Rattle.sort_compare.proofs.Skipping.{drop-skip}
 
-pub order-coded : (f g : List ℕ) (fs gs : List (List ℕ)) → order (coded (f ∷ fs)) (coded (g ∷ gs)) ≡ orElse (order f g) (order (coded fs) (coded gs))
+pub order-coded : (f g : List ℕ) (fs gs : List (List ℕ)) → order (coded (f ∷ fs)) (coded (g ∷ gs)) ≡ thenBy (order f g) (order (coded fs) (coded gs))
 unfolding order coded
 order-coded [] [] fs gs = by-rest 0 0 (coded fs) (coded gs) refl
 order-coded [] (y ∷ ys) fs gs = by-less 0 (suc y) (coded fs) (coded (ys ∷ gs)) (omega arith)
@@ -44,7 +45,7 @@ module _ (s : List ℕ) (n folded i : ℕ) where
 
   key-goes : i < length s → ends true (getD s i 0) ≡ false → rowKey (suc n) folded (drop i s) ≡ suc (shownByte any (getD s i 0)) ∷ rowKey (suc n) folded (drop (i + 1) s)
   unfolding rowKey fieldsFrom coded
-  key-goes h e = rw (part-goes true s i h e, after-goes, shown-cons any (getD s i 0) (part true (drop (i + 1) s)))
+  key-goes h e = rw (part-goes true s i h e, after-goes, shown-cons any (getD s i 0) (frontField true (drop (i + 1) s)))
     where
       b : ℕ
       b = getD s i 0
@@ -52,7 +53,7 @@ module _ (s : List ℕ) (n folded i : ℕ) where
       after-goes : after (drop i s) ≡ after (drop (i + 1) s)
       after-goes = unfold after in rw (drop-here s i h, or-left (isTab b) (isFeed b) e, or-right (isTab b) (isFeed b) e)
 
-  key-ends : part true (drop i s) ≡ [] → rowKey (suc n) folded (drop i s) ≡ 0 ∷ rowKey n folded (drop (nextPlace s i) s)
+  key-ends : frontField true (drop i s) ≡ [] → rowKey (suc n) folded (drop i s) ≡ 0 ∷ rowKey n folded (drop (nextPlace s i) s)
   unfolding rowKey fieldsFrom coded skipPlace
   key-ends e =
       let z : i + 0 ≡ i = omega arith in
@@ -60,9 +61,9 @@ module _ (s : List ℕ) (n folded i : ℕ) where
       rw (e, shown-nil any, f)
 
   -- whatever it is, the unit there comes first
-  key-first : rowKey (suc n) folded (drop i s) ≡ unitOf (shown any (part true (drop i s))) ∷ behind (rowKey (suc n) folded (drop i s))
+  key-first : rowKey (suc n) folded (drop i s) ≡ unitOf (shown any (frontField true (drop i s))) ∷ behind (rowKey (suc n) folded (drop i s))
   unfolding rowKey fieldsFrom coded
-  key-first = go (shown any (part true (drop i s))) (coded (fieldsFrom n folded (after (drop i s))))
+  key-first = go (shown any (frontField true (drop i s))) (coded (fieldsFrom n folded (after (drop i s))))
     where
       go : (f r : List ℕ) → map suc f ++ 0 ∷ r ≡ unitOf f ∷ behind (map suc f ++ 0 ∷ r)
       go [] r = refl
@@ -104,7 +105,7 @@ module _ (s : List ℕ) (a b fields folded i j left : ℕ) (l : RowsFrom s a b f
         (by-rest (suc (shownByte (eqb (suc (left - 1)) folded) (getD s i 0))) (suc (shownByte (eqb (suc (left - 1)) folded) (getD s j 0))) (rowKey (suc (left - 1)) folded (drop (i + 1) s)) (rowKey (suc (left - 1)) folded (drop (j + 1) s)) (ap suc o))
         ∙ ap (λ (m : ℕ). order (rowKey m folded (drop (i + 1) s)) (rowKey m folded (drop (j + 1) s))) (sym more))
 
-    module _ (u : ℕ) (eu : u ≡ unitOf (shown (eqb left folded) (part true (drop i s)))) (w : ℕ) (ew : w ≡ unitOf (shown (eqb left folded) (part true (drop j s)))) where
+    module _ (u : ℕ) (eu : u ≡ unitOf (shown (eqb left folded) (frontField true (drop i s)))) (w : ℕ) (ew : w ≡ unitOf (shown (eqb left folded) (frontField true (drop j s)))) where
       pub row-less : u < w → Less ≡ asked
       row-less g = sym (from ∙ rw (key-first s (left - 1) folded i, key-first s (left - 1) folded j, ← more, ← eu, ← ew) (by-less u w _ _ g))
 

@@ -13,11 +13,12 @@ use Rattle.text_scan.specs.Choice.{pick, _and_}
 use Rattle.text_scan.specs.Bytes.{lower}
 use Rattle.text_scan.proofs.Tests.{not-passed, and-left, and-right, and-false}
 use Rattle.text_scan.proofs.Within.{inside, drop-here}
-use Rattle.table_lines.specs.Lines.{isTab}
+use Rattle.table_lines.specs.Lines.{isTab, front}
 use Rattle.sort_compare.specs.declared.Order.{Order}
 use Rattle.sort_compare.specs.declared.Order.the-variants.{Less, Same, More}
 use Rattle.sort_compare.specs.Order.{order}
-use Rattle.sort_compare.specs.Fields.{ends, alikeFrom, part, shown, unitOf, nextPlace}
+use Rattle.sort_compare.specs.Fields.{ends, frontField, shown, nextPlace}
+use Rattle.sort_compare.specs.Units.{alikeFrom, unitOf}
 use Rattle.sort_compare.proofs.Ordering.{by-less, by-more, by-rest}
 
 -- ---- what follows a place
@@ -70,32 +71,32 @@ unfolding shown
 unit-exact any b e = rw e (omega arith)
 
 module _ (cut : Bool) (t : List ℕ) (k : ℕ) where
-  part-past : length t ≤ k → part cut (drop k t) ≡ []
-  unfolding part
+  part-past : length t ≤ k → frontField cut (drop k t) ≡ []
+  unfolding frontField front
   part-past h = rw (drop-of-length-le t h)
 
-  part-ends : k < length t → ends cut (getD t k 0) ≡ true → part cut (drop k t) ≡ []
-  unfolding part
+  part-ends : k < length t → ends cut (getD t k 0) ≡ true → frontField cut (drop k t) ≡ []
+  unfolding frontField front
   part-ends h e = rw (drop-here t k h, e)
 
-  pub part-goes : k < length t → ends cut (getD t k 0) ≡ false → part cut (drop k t) ≡ getD t k 0 ∷ part cut (drop (k + 1) t)
-  unfolding part
+  pub part-goes : k < length t → ends cut (getD t k 0) ≡ false → frontField cut (drop k t) ≡ getD t k 0 ∷ frontField cut (drop (k + 1) t)
+  unfolding frontField front
   part-goes h e = rw (drop-here t k h, e)
 
   module _ (any : Bool) where
-    pub unit-past : length t ≤ k → 0 ≡ unitOf (shown any (part cut (drop k t)))
+    pub unit-past : length t ≤ k → 0 ≡ unitOf (shown any (frontField cut (drop k t)))
     unit-past h = sym (rw (part-past h, shown-nil any))
 
     module _ (h : k < length t) (u : Bool) (eu : u ≡ ends cut (getD t k 0)) where
-      pub unit-end : u ≡ true → 0 ≡ unitOf (shown any (part cut (drop k t)))
+      pub unit-end : u ≡ true → 0 ≡ unitOf (shown any (frontField cut (drop k t)))
       unit-end f = sym (rw (part-ends h (sym eu ∙ f), shown-nil any))
 
-      pub unit-here : u ≡ false → (r : ℕ) → r ≡ unitOf (shown any (getD t k 0 ∷ [])) → r ≡ unitOf (shown any (part cut (drop k t)))
+      pub unit-here : u ≡ false → (r : ℕ) → r ≡ unitOf (shown any (getD t k 0 ∷ [])) → r ≡ unitOf (shown any (frontField cut (drop k t)))
       unit-here f r e =
-          e ∙ rw (part-goes h (sym eu ∙ f), shown-cons any (getD t k 0) [], shown-cons any (getD t k 0) (part cut (drop (k + 1) t)))
+          e ∙ rw (part-goes h (sym eu ∙ f), shown-cons any (getD t k 0) [], shown-cons any (getD t k 0) (frontField cut (drop (k + 1) t)))
 
     -- where the unit is not 0 the part goes on, and where it is 0 the part ends
-    module _ (u : ℕ) (eu : u ≡ unitOf (shown any (part cut (drop k t)))) where
+    module _ (u : ℕ) (eu : u ≡ unitOf (shown any (frontField cut (drop k t)))) where
       pub unit-inside : (u ≡ 0 → ⊥) → k < length t
       unit-inside z = inside (length t) k (λ h. h) (λ h. absurd (z (eu ∙ sym (unit-past h))))
 
@@ -104,21 +105,21 @@ module _ (cut : Bool) (t : List ℕ) (k : ℕ) where
 
       -- it is that of the byte
       pub unit-is : (u ≡ 0 → ⊥) → u ≡ suc (shownByte any (getD t k 0))
-      unit-is z = eu ∙ rw (part-goes (unit-inside z) (unit-goes z), shown-cons any (getD t k 0) (part cut (drop (k + 1) t)))
+      unit-is z = eu ∙ rw (part-goes (unit-inside z) (unit-goes z), shown-cons any (getD t k 0) (frontField cut (drop (k + 1) t)))
 
-      pub unit-none : u ≡ 0 → part cut (drop k t) ≡ []
-      unit-none z = shown-none any (part cut (drop k t)) (sym eu ∙ z)
+      pub unit-none : u ≡ 0 → frontField cut (drop k t) ≡ []
+      unit-none z = shown-none any (frontField cut (drop k t)) (sym eu ∙ z)
 
 -- ---- the walk to the end of a field: as far from here as from the start
 abbrev pub Ending : List ℕ → ℕ → ℕ → Type 0
-Ending s at i = at + length (part true (drop at s)) ≡ i + length (part true (drop i s))
+Ending s at i = at + length (frontField true (drop at s)) ≡ i + length (frontField true (drop i s))
 
 module _ (s : List ℕ) (at i : ℕ) (l : Ending s at i) where
-  pub end-past : length s ≤ i → i ≡ at + length (part true (drop at s))
+  pub end-past : length s ≤ i → i ≡ at + length (frontField true (drop at s))
   end-past h = omega (arith, l, ap length (part-past true s i h))
 
   module _ (h : i < length s) (u : Bool) (eu : u ≡ ends true (getD s i 0)) where
-    pub end-here : u ≡ true → i ≡ at + length (part true (drop at s))
+    pub end-here : u ≡ true → i ≡ at + length (frontField true (drop at s))
     end-here f = omega (arith, l, ap length (part-ends true s i h (sym eu ∙ f)))
 
     pub end-goes : u ≡ false → Ending s at (i + 1)
@@ -231,17 +232,17 @@ unit-more (x ∷ xs) [] h = refl
 unit-more (x ∷ xs) (y ∷ ys) h = by-more x y xs ys (omega arith)
 
 -- ---- a field against a value: they compare as what is left of them from place k on
-whole : (bs : List ℕ) → part false bs ≡ bs
-unfolding part
+whole : (bs : List ℕ) → frontField false bs ≡ bs
+unfolding frontField front
 whole [] = refl
 whole (b ∷ bs) = ap (λ (l : List ℕ). b ∷ l) (whole bs)
 
 unfoldable pub Comparing : List ℕ → List ℕ → Bool → ℕ → Type 0
-Comparing x v any k = order (shown any (part true x)) (shown any v) ≡ order (shown any (part true (drop k x))) (shown any (part false (drop k v)))
+Comparing x v any k = order (shown any (frontField true x)) (shown any v) ≡ order (shown any (frontField true (drop k x))) (shown any (frontField false (drop k v)))
 
 module _ (x v : List ℕ) (any : Bool) where
   abbrev asked : Order
-  asked = order (shown any (part true x)) (shown any v)
+  asked = order (shown any (frontField true x)) (shown any v)
 
   value-starts : Comparing x v any 0
   unfolding Comparing
@@ -252,20 +253,20 @@ module _ (x v : List ℕ) (any : Bool) where
     unfolding Comparing
     on h g e f q =
         l
-        ∙ rw (part-goes true x k h e, part-goes false v k g f, shown-cons any (getD x k 0) (part true (drop (k + 1) x)), shown-cons any (getD v k 0) (part false (drop (k + 1) v)))
-        (by-rest (shownByte any (getD x k 0)) (shownByte any (getD v k 0)) (shown any (part true (drop (k + 1) x))) (shown any (part false (drop (k + 1) v))) q)
+        ∙ rw (part-goes true x k h e, part-goes false v k g f, shown-cons any (getD x k 0) (frontField true (drop (k + 1) x)), shown-cons any (getD v k 0) (frontField false (drop (k + 1) v)))
+        (by-rest (shownByte any (getD x k 0)) (shownByte any (getD v k 0)) (shown any (frontField true (drop (k + 1) x))) (shown any (frontField false (drop (k + 1) v))) q)
 
     pub value-over : k ≤ length x → length x < k → Same ≡ asked
     value-over h g = absurd (omega arith)
 
-    module _ (u : ℕ) (eu : u ≡ unitOf (shown any (part true (drop k x)))) (w : ℕ) (ew : w ≡ unitOf (shown any (part false (drop k v)))) where
+    module _ (u : ℕ) (eu : u ≡ unitOf (shown any (frontField true (drop k x)))) (w : ℕ) (ew : w ≡ unitOf (shown any (frontField false (drop k v)))) where
       pub value-less : u < w → Less ≡ asked
       unfolding Comparing
-      value-less h = sym (l ∙ unit-less (shown any (part true (drop k x))) (shown any (part false (drop k v))) (rw (← eu, ← ew) h))
+      value-less h = sym (l ∙ unit-less (shown any (frontField true (drop k x))) (shown any (frontField false (drop k v))) (rw (← eu, ← ew) h))
 
       pub value-more : w < u → More ≡ asked
       unfolding Comparing
-      value-more h = sym (l ∙ unit-more (shown any (part true (drop k x))) (shown any (part false (drop k v))) (rw (← eu, ← ew) h))
+      value-more h = sym (l ∙ unit-more (shown any (frontField true (drop k x))) (shown any (frontField false (drop k v))) (rw (← eu, ← ew) h))
 
       module _ (h : w ≤ u) (g : u ≤ w) where
         same : w ≡ u

@@ -8,11 +8,11 @@ use Prim.Native.Nat.{ℕ, suc, _+_, _≤_}
 use native.Mathlib.Omega.{arith}
 use lib.ListN.{length, drop, getD, length-drop}
 use lib.Seq.{getD-drop, drop-drop}
-use Rattle.text_scan.specs.Choice.{pick, _or_}
+use Rattle.text_scan.specs.Choice.{pick, _or_, not}
 use Rattle.text_scan.proofs.Tests.{pick-case}
 use Rattle.text_scan.proofs.Within.{holds-there}
-use Rattle.table_lines.specs.Lines.{isTab}
-use Rattle.sort_compare.specs.Fields.{isFeed, part, after, nextPlace, skipPlace}
+use Rattle.table_lines.specs.Lines.{isTab, front}
+use Rattle.sort_compare.specs.Fields.{isFeed, frontField, after, nextPlace, skipPlace}
 
 -- ---- from the start
 -- one byte more in front
@@ -22,16 +22,16 @@ next-on true m b bs =
     rw e
 next-on false m b bs = refl
 
-front-next : (bs : List ℕ) → drop (nextPlace bs (length (part true bs))) bs ≡ after bs
-unfolding part after nextPlace
+front-next : (bs : List ℕ) → drop (nextPlace bs (length (frontField true bs))) bs ≡ after bs
+unfolding frontField front after nextPlace
 front-next [] = refl
 front-next (b ∷ bs) = go (isTab b) (isFeed b) refl (front-next bs)
   where
-    go : (t u : Bool) → isTab b ≡ t → drop (nextPlace bs (length (part true bs))) bs ≡ after bs
-        → drop (nextPlace (b ∷ bs) (length (pick (t or u) [] (b ∷ part true bs)))) (b ∷ bs) ≡ pick t bs (pick u (b ∷ bs) (after bs))
+    go : (t u : Bool) → isTab b ≡ t → drop (nextPlace bs (length (frontField true bs))) bs ≡ after bs
+        → drop (nextPlace (b ∷ bs) (length (pick (not (t or u)) (b ∷ frontField true bs) []))) (b ∷ bs) ≡ pick t bs (pick u (b ∷ bs) (after bs))
     go true u e q = rw e
     go false true e q = rw e
-    go false false e q = next-on (isTab (getD bs (length (part true bs)) 0)) (length (part true bs)) b bs ∙ q
+    go false false e q = next-on (isTab (getD bs (length (frontField true bs)) 0)) (length (frontField true bs)) b bs ∙ q
 
 -- ---- from a position
 next-shift : (s : List ℕ) (i n : ℕ) → drop (nextPlace s (i + n)) s ≡ drop (nextPlace (drop i s) n) (drop i s)
@@ -46,24 +46,24 @@ next-shift s i n = rw (getD-drop i s n 0) (go (isTab (getD s (i + n) 0)))
 
 pub drop-skip : (s : List ℕ) (i : ℕ) → drop (skipPlace s i) s ≡ after (drop i s)
 unfolding skipPlace
-drop-skip s i = next-shift s i (length (part true (drop i s))) ∙ front-next (drop i s)
+drop-skip s i = next-shift s i (length (frontField true (drop i s))) ∙ front-next (drop i s)
 
 -- ---- the place lies within
-pub part-most : (bs : List ℕ) → length (part true bs) ≤ length bs
-unfolding part
+pub part-most : (bs : List ℕ) → length (frontField true bs) ≤ length bs
+unfolding frontField front
 part-most [] = omega arith
 part-most (b ∷ bs) =
-    pick-case (λ (f : List ℕ). length f ≤ length (b ∷ bs)) (isTab b or isFeed b) [] (b ∷ part true bs) (λ _. omega arith) (λ _. omega (arith, part-most bs))
+    pick-case (λ (f : List ℕ). length f ≤ length (b ∷ bs)) (not (isTab b or isFeed b)) (b ∷ frontField true bs) [] (λ _. omega (arith, part-most bs)) (λ _. omega arith)
 
 pub skip-low : (s : List ℕ) (i : ℕ) → i ≤ length s → skipPlace s i ≤ length s
 unfolding skipPlace nextPlace
 skip-low s i h =
-    let n = i + length (part true (drop i s)) in
+    let n = i + length (frontField true (drop i s)) in
     pick-case (λ (k : ℕ). k ≤ length s) (isTab (getD s n 0)) (n + 1) n
     (λ e. omega (arith, holds-there isTab refl s n e))
     (λ _. omega (arith, part-most (drop i s), length-drop i s))
 
 -- by the calls of the code
-pub skipped : (s : List ℕ) (i e r : ℕ) → e ≡ i + length (part true (drop i s)) → r ≡ nextPlace s e → r ≡ skipPlace s i
+pub skipped : (s : List ℕ) (i e r : ℕ) → e ≡ i + length (frontField true (drop i s)) → r ≡ nextPlace s e → r ≡ skipPlace s i
 unfolding skipPlace
 skipped s i e r f g = rw (← f) g

@@ -4,11 +4,11 @@ use Prim.Native.Nat.{ℕ, zero, suc, _+_}
 use Prim.Native.Char.{code}
 use mathlib.Core.Bool.{Bool, true, false}
 use mathlib.Core.List.{List, [], _∷_, _++_, map}
-use lib.Dec.{eqb, ltb}
+use lib.Dec.{eqb}
 use lib.ListN.{length, drop, getD}
-use Rattle.text_scan.specs.Choice.{pick, _or_, _and_}
+use Rattle.text_scan.specs.Choice.{pick, _or_, _and_, not}
 use Rattle.text_scan.specs.Bytes.{lower}
-use Rattle.table_lines.specs.Lines.{isTab}
+use Rattle.table_lines.specs.Lines.{front, isTab}
 
 abbrev pub isFeed : ℕ → Bool
 isFeed b = eqb b (code "\n")
@@ -17,16 +17,9 @@ isFeed b = eqb b (code "\n")
 abbrev pub ends : Bool → ℕ → Bool
 ends cut b = cut and (isTab b or isFeed b)
 
--- how many bytes in front of two strings are the same and above 13
-unfoldable pub alikeFrom : List ℕ → List ℕ → ℕ
-alikeFrom [] ys = 0
-alikeFrom (x ∷ xs) [] = 0
-alikeFrom (x ∷ xs) (y ∷ ys) = pick (eqb x y and ltb 13 x) (suc (alikeFrom xs ys)) 0
-
 -- all bytes, or only the field in front of them: up to a tab or a line feed
-unfoldable pub part : Bool → List ℕ → List ℕ
-part cut [] = []
-part cut (b ∷ bs) = pick (ends cut b) [] (b ∷ part cut bs)
+unfoldable pub frontField : Bool → List ℕ → List ℕ
+frontField cut bs = front (λ b. not (ends cut b)) bs
 
 -- what follows the field in front and its tab; where the row ends with it, its end
 unfoldable pub after : List ℕ → List ℕ
@@ -39,22 +32,17 @@ nextPlace s i = pick (isTab (getD s i 0)) (i + 1) i
 
 -- the same of the field that starts at i
 unfoldable pub skipPlace : List ℕ → ℕ → ℕ
-skipPlace s i = nextPlace s (i + length (part true (drop i s)))
+skipPlace s i = nextPlace s (i + length (frontField true (drop i s)))
 
 -- the bytes as they are, or each letter A to Z made small
 unfoldable pub shown : Bool → List ℕ → List ℕ
 shown true bs = map lower bs
 shown false bs = bs
 
--- the first byte and one more, and 0 where there is none
-abbrev pub unitOf : List ℕ → ℕ
-unitOf [] = 0
-unitOf (b ∷ bs) = suc b
-
 -- n fields in front of a byte string; the one with which `folded` are left in any case of letters
 unfoldable pub fieldsFrom : ℕ → ℕ → List ℕ → List (List ℕ)
 fieldsFrom zero folded bs = []
-fieldsFrom (suc n) folded bs = shown (eqb (suc n) folded) (part true bs) ∷ fieldsFrom n folded (after bs)
+fieldsFrom (suc n) folded bs = shown (eqb (suc n) folded) (frontField true bs) ∷ fieldsFrom n folded (after bs)
 
 -- several strings as one, each followed by a 0 that stands in none of them: they are ordered by the first, then by the second, and so on
 unfoldable pub coded : List (List ℕ) → List ℕ

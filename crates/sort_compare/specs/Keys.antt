@@ -1,10 +1,8 @@
 -- What positions of a byte string are ordered by: the name that starts there, or fields of the row that starts there.
 -- Assumes nothing.
 use Prim.Native.Nat.{ℕ, _-_}
-use mathlib.Core.Bool.{Bool}
 use mathlib.Core.List.{List}
-use lib.ListN.{getD, take, drop}
-use Rattle.text_scan.specs.Choice.{pick}
+use lib.ListN.{take, drop}
 use Rattle.xml_names.specs.Names.{nameEnd}
 use Rattle.sort_compare.specs.declared.By.{By}
 use Rattle.sort_compare.specs.Fields.{rowKey}
@@ -12,10 +10,6 @@ use Rattle.sort_compare.specs.Fields.{rowKey}
 -- the name at position i, which is empty where none starts
 abbrev pub nameOf : List ℕ → ℕ → List ℕ
 nameOf s i = take (nameEnd s i - i) (drop i s)
-
--- the byte at position i where it is of the class, and 0 where it is not
-abbrev pub byteIn : (ℕ → Bool) → List ℕ → ℕ → ℕ
-byteIn p s i = pick (p (getD s i 0)) (getD s i 0) 0
 
 -- Code: code, code system, and the display name in any case of letters. Register: DUNS number, name. Key: one field
 abbrev pub keyAt : By → List ℕ → ℕ → List ℕ

@@ -1,5 +1,6 @@
 pub mod Order
 pub mod Fields
 pub mod Keys
+pub mod Units
 pub mod Examples
 pub mod Unique

@@ -15,10 +15,10 @@ order (x ∷ xs) [] = More
 order (x ∷ xs) (y ∷ ys) = pick (ltb x y) Less (pick (ltb y x) More (order xs ys))
 
 -- by the first, and where it says that they are the same by the second
-abbrev pub orElse : Order → Order → Order
-orElse Less o = Less
-orElse Same o = o
-orElse More o = More
+abbrev pub thenBy : Order → Order → Order
+thenBy Less o = Less
+thenBy Same o = o
+thenBy More o = More
 
 -- the first is not after the second
 abbrev pub inOrder : Order → Bool

@@ -5,7 +5,8 @@ ghost use mathlib.Core.List.{[], _∷_};
 ghost use Prim.Native.Nat.{_+_};
 ghost use lib.ListN.{length, drop};
 ghost use Rattle.sort_compare.specs.Order.{order};
-ghost use Rattle.sort_compare.specs.Fields.{ends, alikeFrom, part, shown, unitOf, nextPlace, skipPlace, rowKey};
+ghost use Rattle.sort_compare.specs.Fields.{ends, frontField, shown, nextPlace, skipPlace, rowKey};
+ghost use Rattle.sort_compare.specs.Units.{alikeFrom, unitOf};
 use crate::Order;
 
 // What follows place i.
@@ -43,7 +44,7 @@ fn unit_of(b: u8, any: bool) -> usize
 
 // That of the byte at place k of a part, and 0 at its end.
 fn unit(t: &[u8], k: usize, cut: bool, any: bool) -> usize
-    ensures { λ r. ⌜ r ≡ unitOf (shown any (part cut (drop k (now (t .entry))))) ⌝ }
+    ensures { λ r. ⌜ r ≡ unitOf (shown any (frontField cut (drop k (now (t .entry))))) ⌝ }
 {
     if t.len() <= k {
         return 0;
@@ -78,7 +79,7 @@ fn alike(x: &[u8], y: &[u8]) -> usize
 
 // Which comes first: the field in front of x, or a value; in any case of letters or not.
 pub fn compare_value(x: &[u8], value: &[u8], any: bool) -> Order
-    ensures { λ r. ⌜ r ≡ order (shown any (part true (now (x .entry)))) (shown any (now (value .entry))) ⌝ }
+    ensures { λ r. ⌜ r ≡ order (shown any (frontField true (now (x .entry)))) (shown any (now (value .entry))) ⌝ }
 {
     let mut k = alike(x, value);
     while k <= x.len() {
@@ -100,7 +101,7 @@ pub fn compare_value(x: &[u8], value: &[u8], any: bool) -> Order
 
 // Where the field at `at` ends: before a tab or a line feed, or at the end.
 fn field_end(s: &[u8], at: usize) -> usize
-    ensures { λ r. ⌜ r ≡ at + length (part true (drop at (now (s .entry)))) ⌝ }
+    ensures { λ r. ⌜ r ≡ at + length (frontField true (drop at (now (s .entry)))) ⌝ }
 {
     let mut i = at;
     while i < s.len() {

@@ -3,7 +3,8 @@
 ghost use mathlib.Core.Path.{_≡_};
 ghost use Rattle.xml_names.specs.Names.{isNameStart, isNameChar};
 ghost use Rattle.sort_compare.specs.Order.{order};
-ghost use Rattle.sort_compare.specs.Keys.{nameOf, byteIn, keyAt};
+ghost use Rattle.sort_compare.specs.Keys.{nameOf, keyAt};
+ghost use Rattle.sort_compare.specs.Units.{byteIn};
 
 mod fields;
 

@@ -14,12 +14,13 @@ use Rattle.text_scan.specs.Lists.{every}
 use Rattle.text_scan.proofs.Tests.{and-false, or-true, and-left}
 use Rattle.text_scan.proofs.Within.{drop-here}
 use Rattle.text_numbers.specs.Numbers.{valueAfter}
+use Rattle.xml_reader.specs.Limits.{rowsLimit}
 use Rattle.table_file.specs.declared.Counted.{Counted}
 use Rattle.table_file.specs.Accepted.{isCount, countOf}
 
 -- the count, where digits of the value v stand before
 abbrev countFrom : ℕ → List ℕ → Counted
-countFrom v xs = pick (every isDigit xs and leb (valueAfter v xs) 65535) (Counted.Rows (valueAfter v xs)) Counted.Bad
+countFrom v xs = pick (every isDigit xs and leb (valueAfter v xs) rowsLimit) (Counted.Rows (valueAfter v xs)) Counted.Bad
 
 abbrev pub Counting : List ℕ → ℕ → ℕ → Type 0
 Counting line v i = countOf line ≡ countFrom v (drop i line)
@@ -61,11 +62,11 @@ module _ (line : List ℕ) (v i : ℕ) (l : Counting line v i) where
     unfolding every valueAfter
     digit-on f = l ∙ rw (drop-here line i h, ← e, f)
 
-    pub too-many : t ≡ true → 65535 < v * 10 + (getD line i 0 - 48) → Counted.Bad ≡ countOf line
+    pub too-many : t ≡ true → rowsLimit < v * 10 + (getD line i 0 - 48) → Counted.Bad ≡ countOf line
     too-many f g =
-        let w : 65535 < valueAfter (v * 10 + (getD line i 0 - 48)) (drop (i + 1) line) = omega (arith, value-grows (v * 10 + (getD line i 0 - 48)) (drop (i + 1) line)) in
-        sym (digit-on f ∙ simp (lt-leb (valueAfter (v * 10 + (getD line i 0 - 48)) (drop (i + 1) line)) 65535 w, and-false))
+        let w : rowsLimit < valueAfter (v * 10 + (getD line i 0 - 48)) (drop (i + 1) line) = omega (arith, value-grows (v * 10 + (getD line i 0 - 48)) (drop (i + 1) line)) in
+        sym (digit-on f ∙ simp (lt-leb (valueAfter (v * 10 + (getD line i 0 - 48)) (drop (i + 1) line)) rowsLimit w, and-false))
 
-  pub counted : length line ≤ i → v ≤ 65535 → Counted.Rows v ≡ countOf line
+  pub counted : length line ≤ i → v ≤ rowsLimit → Counted.Rows v ≡ countOf line
   unfolding every valueAfter
-  counted h g = sym (l ∙ rw (drop-of-length-le line h, le-leb v 65535 g))
+  counted h g = sym (l ∙ rw (drop-of-length-le line h, le-leb v rowsLimit g))

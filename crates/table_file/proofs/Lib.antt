@@ -1,4 +1,3 @@
 pub mod Lines
 pub mod Counts
 pub mod Sections
-pub mod Told

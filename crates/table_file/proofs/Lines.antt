@@ -10,6 +10,7 @@ use lib.Dec.{eqb, ltb}
 use lib.ListN.{length, take, drop}
 use Rattle.text_scan.specs.Choice.{pick, _and_}
 use Rattle.text_numbers.specs.Numbers.{versionOf}
+use Rattle.xml_reader.specs.Limits.{rowLimit}
 use Rattle.table_lines.specs.Lines.{lineEnd, lineAt, field, fieldsOf, areFields, fieldCount}
 use Rattle.table_file.specs.declared.Kind.{Kind}
 use Rattle.table_file.specs.Accepted.{isOf, isRow}
@@ -32,28 +33,28 @@ pub count-of : (s : List ℕ) (i e n : ℕ) → e ≡ lineEnd s i → n ≡ fiel
 count-of s i e n q f = rw q f
 
 module _ (kind : Kind) (line : List ℕ) where
-  pub too-long : 4096 < length line → false ≡ isRow kind line
+  pub too-long : rowLimit < length line → false ≡ isRow kind line
   unfolding isRow
-  too-long h = rw (lt-leb (length line) 4096 h)
+  too-long h = rw (lt-leb (length line) rowLimit h)
 
-  module _ (h : length line ≤ 4096) (n : ℕ) (e : n ≡ fieldCount line) where
+  module _ (h : length line ≤ rowLimit) (n : ℕ) (e : n ≡ fieldCount line) where
     pub of-three : kind ≡ Kind.CodeList → eqb n 3 ≡ isRow kind line
     unfolding isRow isOf fieldCount
-    of-three k = rw (e, k, le-leb (length line) 4096 h) (same (areFields (fieldsOf line)) (length (fieldsOf line)) 3 refl)
+    of-three k = rw (e, k, le-leb (length line) rowLimit h) (same (areFields (fieldsOf line)) (length (fieldsOf line)) 3 refl)
 
     pub of-two : kind ≡ Kind.Register → eqb n 2 ≡ isRow kind line
     unfolding isRow isOf fieldCount
-    of-two k = rw (e, k, le-leb (length line) 4096 h) (same (areFields (fieldsOf line)) (length (fieldsOf line)) 2 refl)
+    of-two k = rw (e, k, le-leb (length line) rowLimit h) (same (areFields (fieldsOf line)) (length (fieldsOf line)) 2 refl)
 
     module _ (k : kind ≡ Kind.History) where
       pub not-five : (n ≡ 5 → ⊥) → false ≡ isRow kind line
       unfolding isRow isOf fieldCount
       not-five g =
-          rw (k, le-leb (length line) 4096 h)
+          rw (k, le-leb (length line) rowLimit h)
           (tested (areFields (fieldsOf line)) (ltb 0 (versionOf (field (fieldsOf line) 2))) (length (fieldsOf line)) (λ p. g (e ∙ p)))
 
       pub of-five : n ≡ 5 → (f : List ℕ) (v : ℕ) → f ≡ field (fieldsOf line) 2 → v ≡ versionOf f → ltb 0 v ≡ isRow kind line
       unfolding isRow isOf fieldCount
       of-five g f v p q =
-          rw (k, le-leb (length line) 4096 h, q, p)
+          rw (k, le-leb (length line) rowLimit h, q, p)
           (passed (areFields (fieldsOf line)) (ltb 0 (versionOf (field (fieldsOf line) 2))) (length (fieldsOf line)) (sym e ∙ g))

@@ -10,6 +10,7 @@ use Rattle.text_scan.specs.Choice.{pick, _or_, _and_, not}
 use Rattle.text_scan.specs.Bytes.{isDigit}
 use Rattle.text_scan.specs.Lists.{every}
 use Rattle.text_numbers.specs.Numbers.{valueOf, versionOf}
+use Rattle.xml_reader.specs.Limits.{rowLimit, rowsLimit}
 use Rattle.table_lines.specs.Lines.{Row, field, fieldsOf, areFields, lineEnd, hasFeed, lineAt, rowsAt}
 use Rattle.table_file.specs.declared.Kind.{Kind}
 use Rattle.table_file.specs.declared.Counted.{Counted}
@@ -27,14 +28,14 @@ isOf Kind.History row = eqb (length row) 5 and ltb 0 (versionOf (field row 2))
 
 -- the row of a section, of at most 4,096 bytes
 unfoldable pub isRow : Kind → List ℕ → Bool
-isRow kind line = leb (length line) 4096 and areFields (fieldsOf line) and isOf kind (fieldsOf line)
+isRow kind line = leb (length line) rowLimit and areFields (fieldsOf line) and isOf kind (fieldsOf line)
 
 -- ---- a count
 -- decimal, no leading zero, at most 65,535
 unfoldable pub isCount : List ℕ → Bool
 isCount line =
     not (eqb (length line) 0) and every isDigit line and (eqb (length line) 1 or not (eqb (getD line 0 0) (code "0")))
-    and leb (valueOf line) 65535
+    and leb (valueOf line) rowsLimit
 
 unfoldable pub countOf : List ℕ → Counted
 countOf line = pick (isCount line) (Counted.Rows (valueOf line)) Counted.Bad

@@ -2,6 +2,7 @@
 ghost use mathlib.Core.Path.{_≡_};
 ghost use Rattle.table_lines.specs.Lines.{fieldCount};
 ghost use Rattle.table_file.specs.Accepted.{isRow, countOf, rowsEnd, sectionAt, refusalOf, accepted};
+use xml_reader::Reader;
 
 // The three sections.
 pub enum Kind {
@@ -50,7 +51,7 @@ fn is_row(kind: Kind, line: &[u8], n: usize) -> bool
     requires { ⌜ n ≡ fieldCount (now line) ⌝ }
     ensures { λ r. ⌜ r ≡ isRow kind (now (line .entry)) ⌝ }
 {
-    if 4096 < line.len() {
+    if Reader::ROW < line.len() {
         return false;
     }
     match kind {
@@ -83,7 +84,7 @@ fn read_count(line: &[u8]) -> Counted
     while i < line.len() {
         if text_scan::is_digit(line[i]) {
             v = v * 10 + (line[i] - b'0') as usize;
-            if 65535 < v {
+            if Reader::ROWS < v {
                 return Counted::Bad;
             }
             i += 1;

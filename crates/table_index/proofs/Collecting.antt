@@ -15,10 +15,10 @@ use Rattle.text_scan.specs.Choice.{_or_, _and_}
 use Rattle.text_scan.specs.Lists.{some, pairs}
 use Rattle.text_scan.proofs.Tests.{or-false}
 use Rattle.table_lines.specs.Lines.{Row, fieldsOf, lineEnd, rowsAt}
-use Rattle.table_rows.specs.declared.Question.{Question}
 use Rattle.table_rows.specs.Rows.{someRow}
 use Rattle.sort_compare.specs.Keys.{keyAt}
-use Rattle.table_index.specs.Indexed.{isIndexed, byOf, keyOf, hasKey, isKeyOf, keyPlace, Collected}
+use Rattle.table_index.specs.declared.Lookup.{Lookup}
+use Rattle.table_index.specs.Indexed.{byOf, keyOf, hasKey, isKeyOf, keyPlace, Collected}
 use Rattle.table_index.proofs.RowKeys.{row-key}
 
 -- ---- the rows that are left
@@ -52,17 +52,17 @@ some-more p (x ∷ xs) y t = go (p x) (some-more p xs y t)
     go false q = q
 
 -- ---- the loop: n places stand in front of the run, and of the rows those from i on are left
-module _ (q : Question) (keeps : Row → Bool) (s : List ℕ) (at count : ℕ) where
+module _ (q : Lookup) (keeps : Row → Bool) (s : List ℕ) (at count : ℕ) where
   pub record Collecting (run : List ℕ) (n i left : ℕ) : Type 0 where
-    pub told : isIndexed q ≡ true → (k : List ℕ) → someRow (hasKey q keeps k) (rowsAt s at count) ≡ some (isKeyOf q s k) (take n run) or someRow (hasKey q keeps k) (rowsAt s i left)
+    pub told : (k : List ℕ) → someRow (hasKey q keeps k) (rowsAt s at count) ≡ some (isKeyOf q s k) (take n run) or someRow (hasKey q keeps k) (rowsAt s i left)
 
   pub collect-starts : (run : List ℕ) → Collecting run 0 at count
   unfolding some
-  collect-starts run = record { told = λ a k. refl }
+  collect-starts run = record { told = λ k. refl }
 
   module _ (run : List ℕ) (n i left : ℕ) (l : Collecting run n i left) where
     ends : ((p : Row → Bool) → someRow p (rowsAt s i left) ≡ false) → Collected q keeps s at count (take n run)
-    ends f = record { same = λ a k. l .told a k ∙ rw (f (hasKey q keeps k)) (or-false (some (isKeyOf q s k) (take n run))) }
+    ends f = record { same = λ k. l .told k ∙ rw (f (hasKey q keeps k)) (or-false (some (isKeyOf q s k) (take n run))) }
 
     pub collect-over : left ≤ 0 → Collected q keeps s at count (take n run)
     collect-over h = ends (λ p. rest-none p s i left h)
@@ -79,18 +79,18 @@ module _ (q : Question) (keeps : Row → Bool) (s : List ℕ) (at count : ℕ) w
         rest k = rest-here (hasKey q keeps k) s i left h g e f ∙ rw r
 
         pub collect-passes : t ≡ false → Collecting run n (e + 1) (left - 1)
-        collect-passes z = record { told = λ a k. l .told a k ∙ rw (rest k, z) }
+        collect-passes z = record { told = λ k. l .told k ∙ rw (rest k, z) }
 
         module _ (z : t ≡ true) (p : ℕ) (j : p ≡ keyPlace q s i) where
-          key : isIndexed q ≡ true → keyOf q row ≡ keyAt (byOf q) s p
-          key a = rw (j, f) (sym (row-key q a s i))
+          key : keyOf q row ≡ keyAt (byOf q) s p
+          key = rw (j, f) (sym (row-key q s i))
 
           pub collect-puts : (run₀ : List ℕ) → length run ≡ length run₀ → count ≤ length run₀ → n + left ≤ count → Collecting (set run n p) (n + 1) (e + 1) (left - 1)
           collect-puts run₀ u v w =
               let m : n < length run = omega arith in
               record {
-                told = λ a k.
-                    l .told a k
-                    ∙ rw (rest k, z, key a, add-one n, take-suc-set run n p m)
+                told = λ k.
+                    l .told k
+                    ∙ rw (rest k, z, key, add-one n, take-suc-set run n p m)
                     (some-more (isKeyOf q s k) (take n run) p (someRow (hasKey q keeps k) (rowsAt s (e + 1) (left - 1))));
               }

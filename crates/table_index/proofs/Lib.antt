@@ -1,7 +1,4 @@
-pub mod Questions
+pub mod Lookups
 pub mod RowKeys
 pub mod Collecting
-pub mod Asking
-pub mod Searching
 pub mod Runs
-pub mod FirstRow

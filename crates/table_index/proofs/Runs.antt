@@ -1,5 +1,4 @@
 -- The run of an index. Sorting keeps which keys its places have; first their number is written in front of them, then the part that they fill is sorted.
--- What is asked for is then sought in that part.
 -- Assumes nothing.
 use mathlib.Core.Path.{_≡_, sym, _∙_, ap}
 use mathlib.Core.Bool.{Bool, true}
@@ -11,25 +10,23 @@ use lib.ListN.{length, take, drop, getD, set, length-append, length-drop, drop-o
 use lib.Seq.{length-take-le, take-at}
 use Rattle.text_scan.specs.Lists.{some}
 use Rattle.table_lines.specs.Lines.{Row, rowsAt}
-use Rattle.table_rows.specs.declared.Question.{Question}
-use Rattle.table_rows.specs.Rows.{someRow, isAsked}
 use Rattle.sort_compare.specs.declared.By.{By}
 use Rattle.sort_compare.specs.Keys.{keyAt}
 use Rattle.sort_places.specs.Sorting.{Rearranged, rising, Sorted}
 use Rattle.sort_places.proofs.Counting.{some-count}
-use Rattle.table_index.specs.Indexed.{isIndexed, byOf, keepsRow, keyFrom, isKeyOf, Collected, Indexed, Serves, Room}
-use Rattle.table_index.proofs.RowKeys.{some-asked}
+use Rattle.table_index.specs.declared.Lookup.{Lookup}
+use Rattle.table_index.specs.Indexed.{byOf, keepsRow, isKeyOf, Collected, Indexed, Serves, Room}
 
 -- ---- one has a property where those that have it are not none, in whatever order they stand
 some-rearranged : (p : ℕ → Bool) (bs cs : List ℕ) → Rearranged bs cs → some p bs ≡ some p cs
 some-rearranged p bs cs f = some-count p bs ∙ ap (ltb 0) (f p) ∙ sym (some-count p cs)
 
 -- so places stay those of the rows that are kept when they are sorted
-collected-sorted : (q : Question) (keeps : Row → Bool) (s : List ℕ) (at count : ℕ) (bs cs : List ℕ) → Collected q keeps s at count bs → Sorted (keyAt (byOf q) s) bs cs → Collected q keeps s at count cs
+collected-sorted : (q : Lookup) (keeps : Row → Bool) (s : List ℕ) (at count : ℕ) (bs cs : List ℕ) → Collected q keeps s at count bs → Sorted (keyAt (byOf q) s) bs cs → Collected q keeps s at count cs
 unfolding Sorted
-collected-sorted q keeps s at count bs cs l d = record { same = λ e k. l .same e k ∙ some-rearranged (isKeyOf q s k) bs cs (d .1) }
+collected-sorted q keeps s at count bs cs l d = record { same = λ k. l .same k ∙ some-rearranged (isKeyOf q s k) bs cs (d .1) }
 
-pub arranged-by : (q : Question) (s : List ℕ) (by : By) → by ≡ byOf q → (bs cs : List ℕ) → Sorted (keyAt by s) bs cs → Sorted (keyAt (byOf q) s) bs cs
+pub arranged-by : (q : Lookup) (s : List ℕ) (by : By) → by ≡ byOf q → (bs cs : List ℕ) → Sorted (keyAt by s) bs cs → Sorted (keyAt (byOf q) s) bs cs
 arranged-by q s by e bs cs d = rw (← e) d
 
 -- ---- the run x with the numbers ys behind its first, where then n is written; the run w with the numbers zs in the part of n behind its first
@@ -68,38 +65,24 @@ module _ (s : List ℕ) (count : ℕ) (x : List ℕ) (m : Room s count x) (ys : 
     pub run-length : length (arranged (counted x ys n) zs n) ≡ length x
     run-length = rw ends (omega (arith, length-append zs (drop n ys), length-drop n ys, places, behind, m .long))
 
-    pub filled : (q : Question) (keeps : Row → Bool) (at : ℕ) → isIndexed q ≡ true → Collected q keeps s at count (take n ys) → Sorted (keyAt (byOf q) s) (take (1 + n - 1) (drop 1 (counted x ys n))) zs → Indexed q keeps s at count (arranged (counted x ys n) zs n)
+    pub filled : (q : Lookup) (keeps : Row → Bool) (at : ℕ) → Collected q keeps s at count (take n ys) → Sorted (keyAt (byOf q) s) (take (1 + n - 1) (drop 1 (counted x ys n))) zs → Indexed q keeps s at count (arranged (counted x ys n) zs n)
     unfolding Sorted
-    filled q keeps at e l d =
+    filled q keeps at l d =
         let f : Sorted (keyAt (byOf q) s) (take n ys) zs = rw (here, one-less n) at d in
         let g : take n (zs ++ drop n ys) ≡ zs = take-at zs (drop n ys) n places in
         rw ends
         (record {
-          asked = e;
           fits = omega (arith, length-append zs (drop n ys), places);
           rises = rw g (f .0);
           rows = rw g (collected-sorted q keeps s at count (take n ys) zs l f);
         })
 
--- ---- what is asked for is sought among the places: they rise, and have the keys of the rows
-module _ (q : Question) (keeps : Row → Bool) (s : List ℕ) (at count : ℕ) (x : List ℕ) where
-  pub places-rise : Indexed q keeps s at count x → rising (keyAt (byOf q) s) (take (1 + getD x 0 0 - 1) (drop 1 x)) ≡ true
-  places-rise l = rw (one-less (getD x 0 0)) (l .rises)
-
-  pub served : Serves q keeps s at count x → 0 < length x → Indexed q keeps s at count x
-  served l h = l .index h
-
 -- only the index of a history is for the values that it was filled with
 module _ (s : List ℕ) (at count : ℕ) (x a c b d : List ℕ) where
-  pub any-code : Serves Question.Code (keepsRow Question.Code a c) s at count x → Serves Question.Code (keepsRow Question.Code b d) s at count x
+  pub any-code : Serves Lookup.Code (keepsRow Lookup.Code a c) s at count x → Serves Lookup.Code (keepsRow Lookup.Code b d) s at count x
   unfolding keepsRow
   any-code l = l
 
-  pub any-name : Serves Question.Name (keepsRow Question.Name a c) s at count x → Serves Question.Name (keepsRow Question.Name b d) s at count x
+  pub any-name : Serves Lookup.Name (keepsRow Lookup.Name a c) s at count x → Serves Lookup.Name (keepsRow Lookup.Name b d) s at count x
   unfolding keepsRow
   any-name l = l
-
-pub answered : (q : Question) (s : List ℕ) (at count : ℕ) (x a b c : List ℕ) → Indexed q (keepsRow q a c) s at count x → (r : Bool) → r ≡ some (isKeyOf q s (keyFrom q a b c)) (take (1 + getD x 0 0 - 1) (drop 1 x)) → r ≡ someRow (isAsked q a b c) (rowsAt s at count)
-answered q s at count x a b c l r e =
-    let f : r ≡ some (isKeyOf q s (keyFrom q a b c)) (take (getD x 0 0) (drop 1 x)) = rw (one-less (getD x 0 0)) at e in
-    f ∙ sym (some-asked q a b c (l .asked) (rowsAt s at count) ∙ l .rows .same (l .asked) (keyFrom q a b c))

@@ -1,38 +1,27 @@
--- Worked examples of the keys of rows and of the keys of a set id, which the checker computes.
+-- Worked examples of the keys of rows, which the checker computes.
 -- Assumes nothing.
 use Prim.Native.Nat.{ℕ}
 use mathlib.Core.Bool.{true, false}
 use mathlib.Core.List.{List, [], _∷_, map}
 use mathlib.Core.Path.{_≡_, refl}
 use Rattle.text_scan.specs.Bytes.{text}
-use Rattle.text_scan.specs.Lists.{pairs, runEnd}
+use Rattle.text_scan.specs.Lists.{pairs}
 use Rattle.text_facts.specs.Strings.{equal}
-use Rattle.table_lines.specs.Lines.{Row, fieldsOf, rowsAt}
-use Rattle.table_rows.specs.declared.Question.{Question}
-use Rattle.table_rows.specs.Rows.{someRow, isOtherKey}
-use Rattle.sort_compare.specs.Fields.{part, after, shown, nextPlace, skipPlace, fieldsFrom, coded, rowKey}
+use Rattle.table_lines.specs.Lines.{Row, front}
+use Rattle.table_index.specs.declared.Lookup.{Lookup}
+use Rattle.sort_compare.specs.Fields.{frontField, after, shown, nextPlace, skipPlace, fieldsFrom, coded, rowKey}
 use Rattle.sort_compare.specs.Keys.{keyAt}
 use Rattle.table_index.specs.Indexed.{byOf, keepsRow, keyFrom, keyOf, keyPlace}
-use Rattle.table_index.specs.SetKeys.{isOfSet, firstRow, keysOf}
 
 abbrev row : Row
 row = text "51726-8" ∷ text "s" ∷ text "2" ∷ text "d1" ∷ text "1234" ∷ []
 
 -- what a row of a history is ordered by is its key, at byte 15 of it
-keys : keyAt (byOf Question.KeyElsewhere) (text "51726-8\ts\t2\td1\t1234\n") (keyPlace Question.KeyElsewhere (text "51726-8\ts\t2\td1\t1234\n") 0) ≡ keyOf Question.KeyElsewhere row
-unfolding keyPlace skipPlace nextPlace byOf rowKey fieldsFrom part shown after coded keyOf keyFrom
+keys : keyAt (byOf Lookup.KeyElsewhere) (text "51726-8\ts\t2\td1\t1234\n") (keyPlace Lookup.KeyElsewhere (text "51726-8\ts\t2\td1\t1234\n") 0) ≡ keyOf Lookup.KeyElsewhere row
+unfolding keyPlace skipPlace nextPlace byOf rowKey fieldsFrom frontField front shown after coded keyOf keyFrom
 keys = refl
 
 -- it is kept for another set id only
-kept : map (λ (set : List ℕ). keepsRow Question.KeyElsewhere (text "51726-8") set row) (text "u" ∷ text "s" ∷ []) ≡ true ∷ false ∷ []
+kept : map (λ (set : List ℕ). keepsRow Lookup.KeyElsewhere (text "51726-8") set row) (text "u" ∷ text "s" ∷ []) ≡ true ∷ false ∷ []
 unfolding keepsRow equal pairs
 kept = refl
-
--- of set id s the first row starts at 10, and another row has another key; u has one key; v has no row, so that its first is the length
-abbrev history : List ℕ
-history = text "1\tu\t2\td\t5\n1\ts\t2\td\t7\n1\ts\t3\te\t8\n"
-
-sets : map (λ (set : List ℕ). keysOf (text "1") set history 0 3) (text "s" ∷ text "u" ∷ text "v" ∷ [])
-    ≡ record { first = 10; several = true } ∷ record { first = 0; several = false } ∷ record { first = 30; several = false } ∷ []
-unfolding pairs runEnd equal fieldsOf rowsAt someRow isOtherKey isOfSet firstRow keysOf
-sets = refl

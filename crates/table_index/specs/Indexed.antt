@@ -1,8 +1,8 @@
 -- What it means that the rows of a section are indexed: their places stand in a run in order, and a key is had by some row exactly where some place
--- in the run has it.
+-- in the run has it. No definition of document 01: it is what `fill` promises and `some_row` of table_search asks for, and changes no answer.
 -- Assumes nothing.
 use Prim.Native.Nat.{ℕ, _<_, _≤_, _^_}
-use mathlib.Core.Bool.{Bool, true, false}
+use mathlib.Core.Bool.{Bool, true}
 use mathlib.Core.List.{List, [], _∷_}
 use mathlib.Core.Path.{_≡_}
 use lib.Dec.{eqb}
@@ -10,6 +10,7 @@ use lib.ListN.{length, take, drop, getD}
 use Rattle.text_scan.specs.Choice.{_and_, not}
 use Rattle.text_scan.specs.Lists.{pairs, some}
 use Rattle.text_facts.specs.Strings.{equal}
+use Rattle.xml_reader.specs.Limits.{rowsLimit}
 use Rattle.table_lines.specs.Lines.{Row, field, rowsAt}
 use Rattle.table_rows.specs.declared.Question.{Question}
 use Rattle.table_rows.specs.Rows.{someRow}
@@ -17,90 +18,72 @@ use Rattle.sort_compare.specs.declared.By.{By}
 use Rattle.sort_compare.specs.Fields.{shown, skipPlace, coded}
 use Rattle.sort_compare.specs.Keys.{keyAt}
 use Rattle.sort_places.specs.Sorting.{rising}
+use Rattle.table_index.specs.declared.Lookup.{Lookup}
 
 -- ---- the questions whose rows are indexed, and what these are ordered by
-unfoldable pub isIndexed : Question → Bool
-isIndexed Question.Code = true
-isIndexed Question.Name = true
-isIndexed Question.Document = false
-isIndexed Question.Version = false
-isIndexed Question.KeyElsewhere = true
-isIndexed Question.OtherKey = false
+abbrev pub asks : Lookup → Question
+asks Lookup.Code = Question.Code
+asks Lookup.Name = Question.Name
+asks Lookup.KeyElsewhere = Question.KeyElsewhere
 
-unfoldable pub byOf : Question → By
-byOf Question.Code = By.Code
-byOf Question.Name = By.Register
-byOf Question.Document = By.Key
-byOf Question.Version = By.Key
-byOf Question.KeyElsewhere = By.Key
-byOf Question.OtherKey = By.Key
+unfoldable pub byOf : Lookup → By
+byOf Lookup.Code = By.Code
+byOf Lookup.Name = By.Register
+byOf Lookup.KeyElsewhere = By.Key
 
 -- the rows that an index keeps: of a history only those of this type under another set id, else all
-unfoldable pub keepsRow : Question → List ℕ → List ℕ → Row → Bool
-keepsRow Question.Code a c row = true
-keepsRow Question.Name a c row = true
-keepsRow Question.Document a c row = true
-keepsRow Question.Version a c row = true
-keepsRow Question.KeyElsewhere a c row = equal (field row 0) a and not (equal (field row 1) c)
-keepsRow Question.OtherKey a c row = true
+unfoldable pub keepsRow : Lookup → List ℕ → List ℕ → Row → Bool
+keepsRow Lookup.Code a c row = true
+keepsRow Lookup.Name a c row = true
+keepsRow Lookup.KeyElsewhere a c row = equal (field row 0) a and not (equal (field row 1) c)
 
 -- ---- keys
 -- of the values that are asked for: all three, the last in any case of letters; the first two; the second
-unfoldable pub keyFrom : Question → List ℕ → List ℕ → List ℕ → List ℕ
-keyFrom Question.Code a b c = coded (a ∷ b ∷ shown true c ∷ [])
-keyFrom Question.Name a b c = coded (a ∷ b ∷ [])
-keyFrom Question.Document a b c = coded (b ∷ [])
-keyFrom Question.Version a b c = coded (b ∷ [])
-keyFrom Question.KeyElsewhere a b c = coded (b ∷ [])
-keyFrom Question.OtherKey a b c = coded (b ∷ [])
+unfoldable pub keyFrom : Lookup → List ℕ → List ℕ → List ℕ → List ℕ
+keyFrom Lookup.Code a b c = coded (a ∷ b ∷ shown true c ∷ [])
+keyFrom Lookup.Name a b c = coded (a ∷ b ∷ [])
+keyFrom Lookup.KeyElsewhere a b c = coded (b ∷ [])
 
 -- of a row: of the fields that are compared with these values
-unfoldable pub keyOf : Question → Row → List ℕ
-keyOf Question.Code row = keyFrom Question.Code (field row 0) (field row 1) (field row 2)
-keyOf Question.Name row = keyFrom Question.Name (field row 0) (field row 1) []
-keyOf Question.Document row = []
-keyOf Question.Version row = []
-keyOf Question.KeyElsewhere row = keyFrom Question.KeyElsewhere [] (field row 4) []
-keyOf Question.OtherKey row = []
+unfoldable pub keyOf : Lookup → Row → List ℕ
+keyOf Lookup.Code row = keyFrom Lookup.Code (field row 0) (field row 1) (field row 2)
+keyOf Lookup.Name row = keyFrom Lookup.Name (field row 0) (field row 1) []
+keyOf Lookup.KeyElsewhere row = keyFrom Lookup.KeyElsewhere [] (field row 4) []
 
 -- a row that is kept has this key; what stands at a place has it
-abbrev pub hasKey : Question → (Row → Bool) → List ℕ → Row → Bool
+abbrev pub hasKey : Lookup → (Row → Bool) → List ℕ → Row → Bool
 hasKey q keeps k row = keeps row and pairs eqb (keyOf q row) k
 
-abbrev pub isKeyOf : Question → List ℕ → List ℕ → ℕ → Bool
+abbrev pub isKeyOf : Lookup → List ℕ → List ℕ → ℕ → Bool
 isKeyOf q s k i = pairs eqb (keyAt (byOf q) s i) k
 
 -- ---- places
 -- where that starts which the row at i is ordered by
-unfoldable pub keyPlace : Question → List ℕ → ℕ → ℕ
-keyPlace Question.Code s i = i
-keyPlace Question.Name s i = i
-keyPlace Question.Document s i = i
-keyPlace Question.Version s i = i
-keyPlace Question.KeyElsewhere s i = skipPlace s (skipPlace s (skipPlace s (skipPlace s i)))
-keyPlace Question.OtherKey s i = i
+unfoldable pub keyPlace : Lookup → List ℕ → ℕ → ℕ
+keyPlace Lookup.Code s i = i
+keyPlace Lookup.Name s i = i
+keyPlace Lookup.KeyElsewhere s i = skipPlace s (skipPlace s (skipPlace s (skipPlace s i)))
 
 -- the places are those of the rows that are kept
-pub record Collected (q : Question) (keeps : Row → Bool) (s : List ℕ) (at count : ℕ) (places : List ℕ) : Type 0 where
-  pub same : isIndexed q ≡ true → (k : List ℕ) → someRow (hasKey q keeps k) (rowsAt s at count) ≡ some (isKeyOf q s k) places
+pub record Collected (q : Lookup) (keeps : Row → Bool) (s : List ℕ) (at count : ℕ) (places : List ℕ) : Type 0 where
+  pub same : (k : List ℕ) → someRow (hasKey q keeps k) (rowsAt s at count) ≡ some (isKeyOf q s k) places
 
 -- ---- the run: first how many places it has, then the places
 abbrev pub placesIn : List ℕ → List ℕ
 placesIn x = take (getD x 0 0) (drop 1 x)
 
 -- the count rows of the section at `at` of s are indexed by x
-pub record Indexed (q : Question) (keeps : Row → Bool) (s : List ℕ) (at count : ℕ) (x : List ℕ) : Type 0 where
-  pub asked : isIndexed q ≡ true
+pub record Indexed (q : Lookup) (keeps : Row → Bool) (s : List ℕ) (at count : ℕ) (x : List ℕ) : Type 0 where
   pub fits : getD x 0 0 < length x
   pub rises : rising (keyAt (byOf q) s) (placesIn x) ≡ true
   pub rows : Collected q keeps s at count (placesIn x)
 
 -- a run with numbers in it is an index of the section; an empty one is not asked
-pub record Serves (q : Question) (keeps : Row → Bool) (s : List ℕ) (at count : ℕ) (x : List ℕ) : Type 0 where
+pub record Serves (q : Lookup) (keeps : Row → Bool) (s : List ℕ) (at count : ℕ) (x : List ℕ) : Type 0 where
   pub index : 0 < length x → Indexed q keeps s at count x
 
 -- a run has room for an index of so many rows, and its numbers for their places
 pub record Room (s : List ℕ) (count : ℕ) (x : List ℕ) : Type 0 where
   pub long : count < length x
-  pub few : count ≤ 65535
+  pub few : count ≤ rowsLimit
   pub small : length s < 2 ^ 32

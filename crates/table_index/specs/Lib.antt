@@ -1,4 +1,2 @@
 pub mod Indexed
-pub mod SetKeys
-pub mod Unique
 pub mod Examples

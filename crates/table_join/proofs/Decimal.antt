@@ -13,6 +13,7 @@ use Rattle.text_scan.specs.Bytes.{isDigit}
 use Rattle.text_scan.specs.Lists.{every}
 use Rattle.text_scan.proofs.Tests.{never, and-left, and-right, or-true, within}
 use Rattle.text_numbers.specs.Numbers.{valueAfter, valueOf}
+use Rattle.xml_reader.specs.Limits.{rowsLimit}
 use Rattle.table_file.specs.Accepted.{isCount}
 use Rattle.table_join.specs.Written.{digit, digits, decimal}
 use Rattle.table_join.proofs.Lists.{every-joined}
@@ -86,10 +87,10 @@ leads n = by-digits Leads one more n n (omega arith)
     more m ds h e =
         (λ p f. e .0 (omega arith) (sym (List·getD-append ds (digit (m % 10)) 0 0 (e .1)) ∙ f), omega (arith, e .1, length-append ds (digit (m % 10))))
 
-pub count-written : (n : ℕ) → n ≤ 65535 → isCount (decimal n) ≡ true
+pub count-written : (n : ℕ) → n ≤ rowsLimit → isCount (decimal n) ≡ true
 unfolding isCount
 count-written n h =
-    rw (ne-eqb (length (decimal n)) 0 (λ e. omega (arith, some-digit n)), digits-written n, value-written n, le-leb n 65535 h)
+    rw (ne-eqb (length (decimal n)) 0 (λ e. omega (arith, some-digit n)), digits-written n, value-written n, le-leb n rowsLimit h)
     (ap (λ (t : Bool). t and true) (first n))
   where
     first : (m : ℕ) → eqb (length (decimal m)) 1 or not (eqb (getD (decimal m) 0 0) 48) ≡ true
@@ -145,18 +146,18 @@ module _ (line : List ℕ) (e : isCount line ≡ true) where
   read-digits : every isDigit line ≡ true
   read-digits =
       unfold isCount in
-      second (not (eqb (length line) 0)) (every isDigit line) (eqb (length line) 1 or not (eqb (getD line 0 0) 48)) (leb (valueOf line) 65535) e
+      second (not (eqb (length line) 0)) (every isDigit line) (eqb (length line) 1 or not (eqb (getD line 0 0) 48)) (leb (valueOf line) rowsLimit) e
 
   read-first : eqb (length line) 1 or not (eqb (getD line 0 0) 48) ≡ true
   read-first =
       unfold isCount in
-      third (not (eqb (length line) 0)) (every isDigit line) (eqb (length line) 1 or not (eqb (getD line 0 0) 48)) (leb (valueOf line) 65535) e
+      third (not (eqb (length line) 0)) (every isDigit line) (eqb (length line) 1 or not (eqb (getD line 0 0) 48)) (leb (valueOf line) rowsLimit) e
 
-  pub read-most : valueOf line ≤ 65535
+  pub read-most : valueOf line ≤ rowsLimit
   read-most =
-      leb-true (valueOf line) 65535
+      leb-true (valueOf line) rowsLimit
       (unfold isCount in
-      fourth (not (eqb (length line) 0)) (every isDigit line) (eqb (length line) 1 or not (eqb (getD line 0 0) 48)) (leb (valueOf line) 65535) e)
+      fourth (not (eqb (length line) 0)) (every isDigit line) (eqb (length line) 1 or not (eqb (getD line 0 0) 48)) (leb (valueOf line) rowsLimit) e)
 
 first-digit : (b : ℕ) → isDigit b ≡ true → decimal (0 * 10 + (b - 48)) ≡ b ∷ []
 first-digit b e =

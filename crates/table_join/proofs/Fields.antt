@@ -12,6 +12,7 @@ use Rattle.text_scan.specs.Choice.{pick, _and_, not}
 use Rattle.text_scan.specs.Lists.{every}
 use Rattle.text_scan.proofs.Tests.{and-left, and-right}
 use Rattle.text_numbers.specs.Numbers.{versionOf}
+use Rattle.xml_reader.specs.Limits.{rowLimit}
 use Rattle.table_lines.specs.Lines.{Row, field, other, isTab, inFirst, fieldsOf, areFields}
 use Rattle.table_lines.proofs.Counting.{some-field}
 use Rattle.table_file.specs.declared.Kind.{Kind}
@@ -91,7 +92,7 @@ fields-plain (b ∷ bs) e = go (isTab b) refl (fieldsOf bs) (some-field bs) (fie
 
 -- ---- a row of a section
 abbrev rest : Kind → Row → List ℕ → Bool
-rest kind row line = leb (length line) 4096 and areFields row and isOf kind row
+rest kind row line = leb (length line) rowLimit and areFields row and isOf kind row
 
 some-of : (kind : Kind) (row : Row) → isOf kind row ≡ true → 0 < length row
 unfolding isOf
@@ -110,7 +111,7 @@ module _ (kind : Kind) (row : Row) (e : isGoodRow kind row ≡ true) where
   good-some =
       some-of kind row
       (and-right (areFields row) (isOf kind row)
-      (and-right (leb (length (lineOf row)) 4096) (areFields row and isOf kind row) good-rest))
+      (and-right (leb (length (lineOf row)) rowLimit) (areFields row and isOf kind row) good-rest))
 
   pub row-written : isRow kind (lineOf row) ≡ true
   unfolding isRow

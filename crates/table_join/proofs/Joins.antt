@@ -9,6 +9,7 @@ use borrow.Author.Tests.{le-leb, leb-true}
 use lib.Dec.{leb}
 use lib.ListN.{length, length-append}
 use Rattle.text_scan.proofs.Tests.{and-left, and-right}
+use Rattle.xml_reader.specs.Limits.{rowsLimit}
 use Rattle.table_lines.specs.Lines.{Row}
 use Rattle.table_file.specs.declared.Kind.{Kind}
 use Rattle.table_file.specs.Accepted.{Tables, tablesOf, isAccepted}
@@ -24,11 +25,11 @@ good-rows kind (row ∷ a) b p q =
     and-both (isGoodRow kind row) (areGoodRows kind (a ++ b)) (and-left (isGoodRow kind row) (areGoodRows kind a) p)
     (good-rows kind a b (and-right (isGoodRow kind row) (areGoodRows kind a) p) q)
 
-good-section : (kind : Kind) (a b : List Row) → isGoodSection kind a ≡ true → isGoodSection kind b ≡ true → length a + length b ≤ 65535
+good-section : (kind : Kind) (a b : List Row) → isGoodSection kind a ≡ true → isGoodSection kind b ≡ true → length a + length b ≤ rowsLimit
     → isGoodSection kind (a ++ b) ≡ true
 good-section kind a b p q h =
-    and-both (leb (length (a ++ b)) 65535) (areGoodRows kind (a ++ b)) (rw (length-append a b) (le-leb (length a + length b) 65535 h))
-    (good-rows kind a b (and-right (leb (length a) 65535) (areGoodRows kind a) p) (and-right (leb (length b) 65535) (areGoodRows kind b) q))
+    and-both (leb (length (a ++ b)) rowsLimit) (areGoodRows kind (a ++ b)) (rw (length-append a b) (le-leb (length a + length b) rowsLimit h))
+    (good-rows kind a b (and-right (leb (length a) rowsLimit) (areGoodRows kind a) p) (and-right (leb (length b) rowsLimit) (areGoodRows kind b) q))
 
 -- good tables within bounds join to good tables
 pub join-good : (a b : Tables) → isGood a ≡ true → isGood b ≡ true → Fit a b → isGood (join a b) ≡ true
@@ -67,9 +68,9 @@ join-grouped a b c =
     rw (append-assoc (a .codes) (b .codes) (c .codes), append-assoc (a .names) (b .names) (c .names), append-assoc (a .history) (b .history) (c .history))
 
 -- the bounds are needed: of files that join, the joined counts stay within them
-section-fits : (kind : Kind) (c a b : List Row) → isGoodSection kind c ≡ true → c ≡ a ++ b → length a + length b ≤ 65535
+section-fits : (kind : Kind) (c a b : List Row) → isGoodSection kind c ≡ true → c ≡ a ++ b → length a + length b ≤ rowsLimit
 section-fits kind c a b g e =
-    omega (arith, leb-true (length c) 65535 (and-left (leb (length c) 65535) (areGoodRows kind c) g), ap length e, length-append a b)
+    omega (arith, leb-true (length c) rowsLimit (and-left (leb (length c) rowsLimit) (areGoodRows kind c) g), ap length e, length-append a b)
 
 pub joins-fit : (c a b : List ℕ) → Joins c a b → Fit (tablesOf a) (tablesOf b)
 joins-fit c a b j =

@@ -13,8 +13,8 @@ use Rattle.text_scan.specs.Choice.{pick, not}
 use Rattle.text_scan.specs.Lists.{every, runEnd}
 use Rattle.text_scan.proofs.Tests.{and-left, and-right}
 use Rattle.text_scan.proofs.Lists.{run-least}
-use Rattle.table_lines.proofs.Runs.{front, before, least}
-use Rattle.table_lines.specs.Lines.{other, lineEnd, lineAt}
+use Rattle.table_lines.proofs.Runs.{before, least}
+use Rattle.table_lines.specs.Lines.{other, lineEnd, lineAt, front}
 
 -- behind what stands at i
 pub drop-past : (s : List ℕ) (i : ℕ) (w xs : List ℕ) → drop i s ≡ w ++ xs → drop (i + length w) s ≡ xs

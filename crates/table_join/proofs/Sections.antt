@@ -13,6 +13,7 @@ use Rattle.text_scan.specs.Bytes.{isDigit}
 use Rattle.text_scan.specs.Lists.{every}
 use Rattle.text_scan.proofs.Tests.{and-left, and-right}
 use Rattle.text_numbers.specs.Numbers.{valueOf}
+use Rattle.xml_reader.specs.Limits.{rowsLimit}
 use Rattle.table_lines.specs.Lines.{Row, other, lineEnd, hasFeed, lineAt, rowsAt}
 use Rattle.table_file.specs.declared.Kind.{Kind}
 use Rattle.table_file.specs.declared.Counted.{Counted}
@@ -34,7 +35,7 @@ digit-plain b e =
 count-plain : (n : ℕ) → every (other 10) (decimal n) ≡ true
 count-plain n = every-weaker isDigit (other 10) digit-plain (decimal n) (digits-written n)
 
-count-of : (n : ℕ) → n ≤ 65535 → countOf (decimal n) ≡ Counted.Rows n
+count-of : (n : ℕ) → n ≤ rowsLimit → countOf (decimal n) ≡ Counted.Rows n
 unfolding countOf
 count-of n h = rw (count-written n h, value-written n)
 
@@ -61,11 +62,11 @@ section-written kind s i rows xs g e = record {
     line : List ℕ
     line = decimal (length rows)
 
-    most : length rows ≤ 65535
-    most = leb-true (length rows) 65535 (and-left (leb (length rows) 65535) (areGoodRows kind rows) g)
+    most : length rows ≤ rowsLimit
+    most = leb-true (length rows) rowsLimit (and-left (leb (length rows) rowsLimit) (areGoodRows kind rows) g)
 
     good : areGoodRows kind rows ≡ true
-    good = and-right (leb (length rows) 65535) (areGoodRows kind rows) g
+    good = and-right (leb (length rows) rowsLimit) (areGoodRows kind rows) g
 
     here : drop i s ≡ line ++ 10 ∷ (writtenRows rows ++ xs)
     here = unfold writtenSection in e ∙ append-assoc line (10 ∷ writtenRows rows) xs
@@ -91,11 +92,11 @@ pub record Came (kind : Kind) (s : List ℕ) (i first count after : ℕ) : Type 
   pub text : drop i s ≡ writtenSection (rowsAt s first count) ++ drop after s
 
 -- a line that says a count is that count
-count-said : (line : List ℕ) (n : ℕ) → countOf line ≡ Counted.Rows n → (n ≤ 65535) × (line ≡ decimal n)
+count-said : (line : List ℕ) (n : ℕ) → countOf line ≡ Counted.Rows n → (n ≤ rowsLimit) × (line ≡ decimal n)
 unfolding countOf
 count-said line n e = go (isCount line) refl e
   where
-    go : (t : Bool) → isCount line ≡ t → pick t (Counted.Rows (valueOf line)) Counted.Bad ≡ Counted.Rows n → (n ≤ 65535) × (line ≡ decimal n)
+    go : (t : Bool) → isCount line ≡ t → pick t (Counted.Rows (valueOf line)) Counted.Bad ≡ Counted.Rows n → (n ≤ rowsLimit) × (line ≡ decimal n)
     go true q f =
         let v : valueOf line ≡ n = cc in
         (omega (arith, read-most line q), sym (ap decimal (sym v) ∙ count-read line q))
@@ -108,7 +109,7 @@ module _ (kind : Kind) (s : List ℕ) (i : ℕ) where
       let r = rows-read kind s n (lineEnd s i + 1) j e in
       let d = count-said (lineAt s i) n c in
       record {
-        good = and-both (leb (length (rowsAt s (lineEnd s i + 1) n)) 65535) (areGoodRows kind (rowsAt s (lineEnd s i + 1) n)) (rw (r .many) (le-leb n 65535 (d .0))) (r .good);
+        good = and-both (leb (length (rowsAt s (lineEnd s i + 1) n)) rowsLimit) (areGoodRows kind (rowsAt s (lineEnd s i + 1) n)) (rw (r .many) (le-leb n rowsLimit (d .0))) (r .good);
         many = r .many;
         text =
             rw (r .many, ← d .1)

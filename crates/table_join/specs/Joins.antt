@@ -5,6 +5,7 @@ use mathlib.Core.Bool.{true}
 use mathlib.Core.List.{List, _++_}
 use mathlib.Core.Path.{_≡_}
 use lib.ListN.{length}
+use Rattle.xml_reader.specs.Limits.{rowsLimit}
 use Rattle.table_file.specs.Accepted.{Tables, tablesOf, isAccepted}
 use Rattle.table_join.specs.Written.{written}
 
@@ -20,9 +21,9 @@ pub record Joins (c a b : List ℕ) : Type 0 where
 
 -- the joined counts stay within bounds
 pub record Fit (a b : Tables) : Type 0 where
-  pub codes : length (a .codes) + length (b .codes) ≤ 65535
-  pub names : length (a .names) + length (b .names) ≤ 65535
-  pub history : length (a .history) + length (b .history) ≤ 65535
+  pub codes : length (a .codes) + length (b .codes) ≤ rowsLimit
+  pub names : length (a .names) + length (b .names) ≤ rowsLimit
+  pub history : length (a .history) + length (b .history) ≤ rowsLimit
 
 -- the file that joins two files
 unfoldable pub joined : List ℕ → List ℕ → List ℕ

@@ -8,6 +8,7 @@ use lib.Dec.{leb, ltb}
 use lib.ListN.{length}
 use Rattle.text_scan.specs.Choice.{pick, _and_}
 use Rattle.text_scan.specs.Lists.{every}
+use Rattle.xml_reader.specs.Limits.{rowLimit, rowsLimit}
 use Rattle.table_lines.specs.Lines.{Row, other, areFields}
 use Rattle.table_file.specs.Accepted.{isOf, Tables}
 use Rattle.table_file.specs.declared.Kind.{Kind}
@@ -56,7 +57,7 @@ arePlain [] = true
 arePlain (f ∷ fs) = every isPlain f and arePlain fs
 
 unfoldable pub isGoodRow : Kind → Row → Bool
-isGoodRow kind row = arePlain row and leb (length (lineOf row)) 4096 and areFields row and isOf kind row
+isGoodRow kind row = arePlain row and leb (length (lineOf row)) rowLimit and areFields row and isOf kind row
 
 unfoldable pub areGoodRows : Kind → List Row → Bool
 areGoodRows kind [] = true
@@ -64,7 +65,7 @@ areGoodRows kind (row ∷ rows) = isGoodRow kind row and areGoodRows kind rows
 
 -- at most 65,535 rows, each good
 abbrev pub isGoodSection : Kind → List Row → Bool
-isGoodSection kind rows = leb (length rows) 65535 and areGoodRows kind rows
+isGoodSection kind rows = leb (length rows) rowsLimit and areGoodRows kind rows
 
 unfoldable pub isGood : Tables → Bool
 isGood t =

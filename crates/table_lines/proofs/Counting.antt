@@ -12,8 +12,8 @@ use lib.ListN.{length, drop, getD, drop-of-length-le}
 use Rattle.text_scan.specs.Choice.{pick, _and_}
 use Rattle.text_scan.specs.Lists.{every}
 use Rattle.text_scan.proofs.Within.{drop-here}
-use Rattle.table_lines.specs.Lines.{Row, other, lineAt, inFirst, fieldsOf, areFields, fieldCount}
-use Rattle.table_lines.proofs.Runs.{front, before}
+use Rattle.table_lines.specs.Lines.{Row, other, lineAt, inFirst, fieldsOf, areFields, fieldCount, front}
+use Rattle.table_lines.proofs.Runs.{before}
 
 -- a line has a field
 pub some-field : (xs : List ℕ) → 0 < length (fieldsOf xs)

@@ -8,9 +8,11 @@ use native.Mathlib.Omega.{arith}
 use borrow.Author.Tests.{ne-eqb}
 use lib.ListN.{length, take, drop, getD, drop-of-length-le}
 use Rattle.text_scan.specs.Choice.{pick, not}
+use Rattle.text_scan.specs.Lists.{runFrom}
 use Rattle.text_scan.proofs.Within.{drop-here}
-use Rattle.table_lines.specs.Lines.{Row, other, isTab, field, inFirst, fieldsOf, fieldStart, fieldEnd}
-use Rattle.table_lines.proofs.Runs.{front, before}
+use Rattle.table_lines.specs.Lines.{Row, other, isTab, field, inFirst, fieldsOf, front}
+use Rattle.table_lines.specs.Starts.{fieldStart}
+use Rattle.table_lines.proofs.Runs.{before}
 
 -- ---- the loop of `field_start`
 abbrev pub Starting : List ℕ → ℕ → ℕ → ℕ → Type 0
@@ -99,7 +101,7 @@ stands (suc k) i (b ∷ bs) = go (isTab b) (stands k (i + 1) bs) (stands (suc k)
         rw e (later-more b k (fieldsOf bs) ∙ q)
 
 -- the part of a line that is its field of number k
-pub part : (line : List ℕ) (k a e : ℕ) → a ≡ fieldStart k 0 line → e ≡ fieldEnd line a → take (e - a) (drop a line) ≡ field (fieldsOf line) k
-part line k a e p q =
+pub field-part : (line : List ℕ) (k a e : ℕ) → a ≡ fieldStart k 0 line → e ≡ runFrom (other 9) line a → take (e - a) (drop a line) ≡ field (fieldsOf line) k
+field-part line k a e p q =
     let z : fieldStart k 0 line - 0 ≡ a = omega arith in
     rw (q, before noTab a (drop a line)) (sym (stands k 0 line ∙ rw z))

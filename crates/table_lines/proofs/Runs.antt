@@ -13,7 +13,7 @@ use Rattle.text_scan.specs.Choice.{pick}
 use Rattle.text_scan.specs.Lists.{runEnd, runFrom}
 use Rattle.text_scan.proofs.Lists.{Run, run-goes, run-stops, run-least, run-most}
 use Rattle.text_scan.proofs.Tests.{pick-case}
-use Rattle.table_lines.specs.Lines.{other, lineEnd}
+use Rattle.table_lines.specs.Lines.{other, front, lineEnd}
 
 module _ (s : List ℕ) (at b i : ℕ) (l : Run (other b) s at i) (h : i < length s) where
   pub until-here : getD s i 0 ≡ b → i ≡ runFrom (other b) s at
@@ -45,10 +45,6 @@ pub line-fits : (s : List ℕ) (i e : ℕ) → e ≡ lineEnd s i → i < length 
 line-fits s i e p h g = omega (arith, line-within s i e p h)
 
 -- what stands before the end of a run
-unfoldable pub front : (ℕ → Bool) → List ℕ → List ℕ
-front p [] = []
-front p (x ∷ xs) = pick (p x) (x ∷ front p xs) []
-
 pub least : (p : ℕ → Bool) (i : ℕ) (xs : List ℕ) → i ≤ runEnd p i xs
 unfolding runEnd
 least p i [] = omega arith

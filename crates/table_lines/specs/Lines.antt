@@ -12,6 +12,11 @@ use Rattle.text_scan.specs.Lists.{every, runFrom}
 abbrev pub other : ℕ → ℕ → Bool
 other b x = not (eqb x b)
 
+-- the bytes in front of the first that fails a test
+unfoldable pub front : (ℕ → Bool) → List ℕ → List ℕ
+front p [] = []
+front p (x ∷ xs) = pick (p x) (x ∷ front p xs) []
+
 -- ---- lines
 -- the place of the line feed that ends the line at i, or the length where there is none
 abbrev pub lineEnd : List ℕ → ℕ → ℕ
@@ -65,13 +70,3 @@ areFields (f ∷ fs) = isField f and areFields fs
 -- the number of fields, or 0 where one of them is no field
 unfoldable pub fieldCount : List ℕ → ℕ
 fieldCount line = pick (areFields (fieldsOf line)) (length (fieldsOf line)) 0
-
--- the place where the field of number k starts, and else the end, in what follows place i of a line
-unfoldable pub fieldStart : ℕ → ℕ → List ℕ → ℕ
-fieldStart zero i xs = i
-fieldStart (suc k) i [] = i
-fieldStart (suc k) i (b ∷ bs) = pick (isTab b) (fieldStart k (i + 1) bs) (fieldStart (suc k) (i + 1) bs)
-
--- the place of the tab that ends the field at i, or the end
-abbrev pub fieldEnd : List ℕ → ℕ → ℕ
-fieldEnd line i = runFrom (other (code "\t")) line i

@@ -1,7 +1,8 @@
 // The lines of the tables file, and the fields of a line, as parts of its bytes.
 ghost use mathlib.Core.Path.{_≡_};
 ghost use Rattle.text_scan.specs.Lists.{runFrom};
-ghost use Rattle.table_lines.specs.Lines.{other, lineEnd, lineAt, field, fieldsOf, fieldCount, fieldStart};
+ghost use Rattle.table_lines.specs.Lines.{other, lineEnd, lineAt, field, fieldsOf, fieldCount};
+ghost use Rattle.table_lines.specs.Starts.{fieldStart};
 
 // A line: the place of its line feed or the length, and the number of its fields, or 0 where one is empty or has a carriage return.
 pub struct Line {

@@ -9,7 +9,7 @@ use Rattle.text_scan.specs.Lists.{every, pairs, runEnd}
 use Rattle.text_facts.specs.Strings.{equal, equalInAnyCase}
 use Rattle.text_numbers.specs.Numbers.{valueAfter, versionOf}
 use Rattle.table_lines.specs.Lines.{Row, fieldsOf, rowsAt}
-use Rattle.table_rows.specs.Rows.{someRow, isCode, isName, isDocument, isVersion, isKeyElsewhere, isOtherKey}
+use Rattle.table_rows.specs.Rows.{someRow, isCode, isRegistered, isDocument, isVersion, isKeyElsewhere, isOtherKey}
 
 abbrev history : List ℕ
 history = text "51726-8\ts\t2\td1\t1234\n51726-8\ts\t10\td2\t1234\n51726-8\tu\t007\td3\t5678\n"
@@ -36,7 +36,7 @@ others = refl
 -- case is ignored in the display name alone
 names : map (λ (q : Row → Bool). someRow q (rowsAt (text "C7\t1.2\tImport\n") 0 1))
     (isCode (text "C7") (text "1.2") (text "IMPORT") ∷ isCode (text "c7") (text "1.2") (text "Import")
-    ∷ isName (text "C7") (text "1.2") ∷ isName (text "C7") (text "Import") ∷ [])
+    ∷ isRegistered (text "C7") (text "1.2") ∷ isRegistered (text "C7") (text "Import") ∷ [])
     ≡ true ∷ false ∷ true ∷ false ∷ []
-unfolding every pairs runEnd equal equalInAnyCase fieldsOf rowsAt someRow isCode isName
+unfolding every pairs runEnd equal equalInAnyCase fieldsOf rowsAt someRow isCode isRegistered
 names = refl

@@ -23,8 +23,8 @@ isCode code system display row =
 
 -- ---- register: DUNS number, name
 -- procedure 18: that number and name
-unfoldable pub isName : List ℕ → List ℕ → Row → Bool
-isName number name row = equal (field row 0) number and equal (field row 1) name
+unfoldable pub isRegistered : List ℕ → List ℕ → Row → Bool
+isRegistered number name row = equal (field row 0) number and equal (field row 1) name
 
 -- ---- history: type, set id, version, document id, key
 -- procedure 6: that document id
@@ -48,7 +48,7 @@ isOtherKey type set key row =
 -- ---- all of them, asked of up to three values
 unfoldable pub isAsked : Question → List ℕ → List ℕ → List ℕ → Row → Bool
 isAsked Question.Code a b c = isCode a b c
-isAsked Question.Name a b c = isName a b
+isAsked Question.Name a b c = isRegistered a b
 isAsked Question.Document a b c = isDocument a
 isAsked Question.Version a b c = isVersion a b
 isAsked Question.KeyElsewhere a b c = isKeyElsewhere a b c

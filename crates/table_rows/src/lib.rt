@@ -4,7 +4,7 @@ ghost use mathlib.Core.Path.{_≡_};
 ghost use Rattle.text_facts.specs.Strings.{equal, equalInAnyCase};
 ghost use Rattle.text_numbers.specs.Numbers.{versionOf};
 ghost use Rattle.table_lines.specs.Lines.{field, fieldsOf, rowsAt};
-ghost use Rattle.table_rows.specs.Rows.{someRow, isAsked, isCode, isName, isDocument, isVersion, isKeyElsewhere, isOtherKey};
+ghost use Rattle.table_rows.specs.Rows.{someRow, isAsked, isCode, isRegistered, isDocument, isVersion, isKeyElsewhere, isOtherKey};
 
 // What can be asked of a row.
 pub enum Question {
@@ -49,8 +49,8 @@ fn is_code(line: &[u8], code: &[u8], system: &[u8], display: &[u8]) -> bool
     false
 }
 
-fn is_name(line: &[u8], number: &[u8], name: &[u8]) -> bool
-    ensures { λ r. ⌜ r ≡ isName (now (number .entry)) (now (name .entry)) (fieldsOf (now (line .entry))) ⌝ }
+fn is_registered(line: &[u8], number: &[u8], name: &[u8]) -> bool
+    ensures { λ r. ⌜ r ≡ isRegistered (now (number .entry)) (now (name .entry)) (fieldsOf (now (line .entry))) ⌝ }
 {
     if field_is(line, 0, number) {
         return field_is(line, 1, name);
@@ -97,7 +97,7 @@ pub fn is_asked(q: Question, line: &[u8], a: &[u8], b: &[u8], c: &[u8]) -> bool
 {
     match q {
         Question::Code => is_code(line, a, b, c),
-        Question::Name => is_name(line, a, b),
+        Question::Name => is_registered(line, a, b),
         Question::Document => field_is(line, 3, a),
         Question::Version => is_version(line, a, b),
         Question::KeyElsewhere => is_key_elsewhere(line, a, b, c),

@@ -1,6 +1,6 @@
 -- `judge_lookup::fill_keys_of` meets its contract.
 -- Assumes nothing.
-use Rattle.judge_lookup.proofs.Laws.{keys-filled, asks-key}
+use Rattle.judge_lookup.proofs.Laws.{keys-filled, room}
 use borrow.Author.Needs.{needs}
 use Rattle.judge_lookup.proofs.fill_keys_of.Statement.{statement}
 use Rattle.judge_lookup.proofs.fill_keys_of.Tie as tie
@@ -18,7 +18,7 @@ attribute-requires : tie.Need-attribute-requires
 attribute-requires c κs = search needs
 
 fill-requires : tie.Need-fill-requires
-fill-requires c κs = search asks-key
+fill-requires c κs = search room
 
 same-length : tie.Need-same-length
 same-length c = search needs

@@ -1,6 +1,6 @@
 -- `judge_lookup::serve_rows` meets its contract.
 -- Assumes nothing.
-use Rattle.judge_lookup.proofs.Laws.{asks-code, asks-name}
+use Rattle.judge_lookup.proofs.Laws.{room}
 use borrow.Author.Needs.{needs}
 use Rattle.judge_lookup.proofs.serve_rows.Statement.{statement}
 use Rattle.judge_lookup.proofs.serve_rows.Tie as tie
@@ -12,7 +12,7 @@ slice-aggregate-fill-2 : tie.Need-slice-aggregate-fill-2
 slice-aggregate-fill-2 c = search needs
 
 fill-requires : tie.Need-fill-requires
-fill-requires c κs = search asks-code
+fill-requires c κs = search room
 
 slice-aggregate-fill-3 : tie.Need-slice-aggregate-fill-3
 slice-aggregate-fill-3 c = search needs
@@ -21,7 +21,7 @@ slice-aggregate-fill-4 : tie.Need-slice-aggregate-fill-4
 slice-aggregate-fill-4 c = search needs
 
 fill-requires-2 : tie.Need-fill-requires-2
-fill-requires-2 c κs = search asks-name
+fill-requires-2 c κs = search room
 
 same-length : tie.Need-same-length
 same-length c = search needs

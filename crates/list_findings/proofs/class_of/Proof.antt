@@ -1,24 +1,39 @@
--- `list_findings::class_of` meets its contract: each arm is a case of the class.
+-- `list_findings::class_of` meets its contract: one list after the other.
 -- Assumes nothing.
-use native.Mathlib.Omega.{arith}
-use Rattle.list_findings.proofs.Classes.{both, either, either-range, document-only}
+use borrow.Author.Needs.{needs}
+use Rattle.list_findings.proofs.Classes.{both, either, document-only}
 use Rattle.list_findings.proofs.class_of.Statement.{statement}
 use Rattle.list_findings.proofs.class_of.Tie as tie
 
+slice-aggregate-is-one-of : tie.Need-slice-aggregate-is-one-of
+slice-aggregate-is-one-of c = search needs
+
+is-one-of-requires : tie.Need-is-one-of-requires
+is-one-of-requires c κs = search needs
+
 returns : tie.Need-returns
-returns c = both (c .before .args .procedure) (c .match .keys1)
+returns c = search both
+
+slice-aggregate-is-one-of-2 : tie.Need-slice-aggregate-is-one-of-2
+slice-aggregate-is-one-of-2 c = search needs
+
+is-one-of-requires-2 : tie.Need-is-one-of-requires-2
+is-one-of-requires-2 c κs = search needs
 
 returns-2 : tie.Need-returns-2
-returns-2 c = document-only (c .before .before .args .procedure) (c .before .match .rest .0 .1) (c .before .match .rest .1) (λ e. omega arith) (λ e. omega arith)
+returns-2 c = search either
 
 returns-3 : tie.Need-returns-3
-returns-3 c = document-only (c .before .before .before .args .procedure) (c .before .before .match .rest .0 .1) (c .before .before .match .rest .1) (λ e. omega arith) (λ e. omega arith)
-
-returns-4 : tie.Need-returns-4
-returns-4 c = either (c .before .args .procedure) (c .match .keys2)
-
-returns-5 : tie.Need-returns-5
-returns-5 c = either-range (c .before .before .before .args .procedure) (omega arith) (omega arith)
+returns-3 c = search document-only
 
 pub class-of-spec : {M : Type 1} → statement M
-class-of-spec = tie.close (tie.spec returns returns-2 returns-3 returns-4 returns-5)
+class-of-spec =
+    tie.close
+    (tie.spec
+    slice-aggregate-is-one-of
+    is-one-of-requires
+    returns
+    slice-aggregate-is-one-of-2
+    is-one-of-requires-2
+    returns-2
+    returns-3)

@@ -6,11 +6,12 @@ use Prim.Native.Nat.{_-_}
 use lib.ListN.{length}
 use borrow.Author.Tests.{lt-leb}
 use borrow.Author.Needs.{needs}
+use Rattle.list_findings.specs.Findings.{width}
 use Rattle.list_findings.proofs.has_record.Statement.{statement}
 use Rattle.list_findings.proofs.has_record.Tie as tie
 
 returns : tie.Need-returns
-returns c = sym (lt-leb 3 (length (c .before .args .s .now) - c .before .args .k) (omega arith))
+returns c = sym (lt-leb width (length (c .before .args .s .now) - c .before .args .k) (omega arith))
 
 sub-result : tie.Need-sub-result
 sub-result c = search needs

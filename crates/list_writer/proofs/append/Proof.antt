@@ -52,9 +52,9 @@ use Rattle.list_writer.proofs.Listing.Laws as T′
 use Rattle.list_writer.proofs.Lent.{spent, spent-goes, LentAgain, lends-again, comes-back}
 use Rattle.list_writer.proofs.place as place
 use Rattle.list_writer.proofs.place.Symbol as place-def
-use Rattle.list_writer.proofs.place.Symbol.{name as #listing·place}
+use Rattle.list_writer.proofs.place.Symbol.{name as #list-writer·place}
 use Rattle.list_writer.proofs.place.Met as place-thm
-use Rattle.list_writer.proofs.append.Key.{name as #listing·append}
+use Rattle.list_writer.proofs.append.Key.{name as #list-writer·append}
 use Rattle.list_writer.proofs.append as append
 use Rattle.list_writer.proofs.append.Statement as stated
 use Rattle.list_writer.proofs.append.Code as code
@@ -127,7 +127,7 @@ module _ {M : Type 1} (𝓤 : URA M) (H : Heap 𝓤) (A : Atoms 𝓤) (W : Given
       use1 W (‵ (inStruct (MutSlice (named 0) κ u32 ∷ usize ∷ []) (mach n ∷ []) had)) (makes 𝓤 H A W (MutSlice (named 0) κ u32 ∷ usize ∷ []) had (s ∷ [], (vint w64 n ∷ [], tt))) $
       nothing ! $ owned ! F.the-row (Is F.the-row) (LL.makes F.the-type F′.the-plain 𝓤 H A) f _ f-is $ fjoin ! $ move ! (1 ∷ 0 ∷ []) $ fjoin ! $ done !
 
-  module _ (C : Calls 𝓤 H) (Λ : Loops 𝓤 H) (fm : FmC 𝓤 H (W .laws) C) (known : Triple 𝓤 (C #listing·place) (Place 𝓤 H A mem run)) where
+  module _ (C : Calls 𝓤 H) (Λ : Loops 𝓤 H) (fm : FmC 𝓤 H (W .laws) C) (known : Triple 𝓤 (C #list-writer·place) (Place 𝓤 H A mem run)) where
     walk : Is (T.the-row α) h (mach n ∷ []) → Room u32 (length ys) → ent 𝓤 (onEntry 𝓤 H A append.signature (κ, tt) (q, tt) a vals) (WpFn 𝓤 H C Λ code.function (mach n ∷ fv ∷ []) Post)
     walk g room =
         qed W ((‵ (flft κ q) ⊛ ‵ ftrue) ∷ ‵ (owns (T.the-row α ∷ F.the-row ∷ []) a vals) ∷ []) ∵ enter ! C Λ code.function (mach n ∷ fv ∷ []) _ $
@@ -161,7 +161,7 @@ module _ {M : Type 1} (𝓤 : URA M) (H : Heap 𝓤) (A : Atoms 𝓤) (W : Given
         keep ! (1 ∷ 0 ∷ []) $ by ! (exits r (zs .0) e (is .1))))))))))))))))))))
 
 module _ {M : Type 1} (𝓤 : URA M) (H : Heap 𝓤) (A : Atoms 𝓤) (W : Given 𝓤 H A) (mem : Memory → SProp 𝓤) (run : Routine → Fun 𝓤) where
-  append-walks : (C : Calls 𝓤 H) (Λ : Loops 𝓤 H) → FmC 𝓤 H (W .laws) C → Triple 𝓤 (C #listing·place) (Place 𝓤 H A mem run) → Walks 𝓤 H A append.ended stayed (WpFn 𝓤 H C Λ code.function) (append.clauses 𝓤 H A mem run)
+  append-walks : (C : Calls 𝓤 H) (Λ : Loops 𝓤 H) → FmC 𝓤 H (W .laws) C → Triple 𝓤 (C #list-writer·place) (Place 𝓤 H A mem run) → Walks 𝓤 H A append.ended stayed (WpFn 𝓤 H C Λ code.function) (append.clauses 𝓤 H A mem run)
   append-walks C Λ fm known = walked 𝓤 H A append.ended stayed (append.clauses 𝓤 H A mem run) (WpFn 𝓤 H C Λ code.function)
       (λ κs. (LL.vals (T.the-type (namedLft 1 0 tt κs)) (T′.the-laws (namedLft 1 0 tt κs)), (LL.vals F.the-type F′.the-laws, tt)))
       (λ κs. (LL.tells (T.the-type (namedLft 1 0 tt κs)) (T′.the-laws (namedLft 1 0 tt κs)), (LL.tells F.the-type F′.the-laws, tt)))
@@ -170,7 +170,7 @@ module _ {M : Type 1} (𝓤 : URA M) (H : Heap 𝓤) (A : Atoms 𝓤) (W : Given
       via 𝓤 _ (fst∗ 𝓤 _ (emp 𝓤))
       (walk 𝓤 H A W mem run (κs .0) (qs .0) (a .0 .list .ptr .0) (a .0 .list .ptr .1) (a .0 .list .name) (a .0 .list .now) (a .0 .count) (a .1 .0) (fields .1 .0 .1) (are .1 .0) C Λ fm known (are .0) (fields .0 .0 .1)))
 
-append-meets : {M : Type 1} (𝓤 : URA M) (H : Heap 𝓤) (A : Atoms 𝓤) → Given 𝓤 H A → (mem : Memory → SProp 𝓤) (run : Routine → Fun 𝓤) (𝓣 : Tables 𝓤 H) → Triple 𝓤 (𝓣 .C #listing·place) (Place 𝓤 H A mem run)
+append-meets : {M : Type 1} (𝓤 : URA M) (H : Heap 𝓤) (A : Atoms 𝓤) → Given 𝓤 H A → (mem : Memory → SProp 𝓤) (run : Routine → Fun 𝓤) (𝓣 : Tables 𝓤 H) → Triple 𝓤 (𝓣 .C #list-writer·place) (Place 𝓤 H A mem run)
     → Meets 𝓤 H A append.signature (WpFn 𝓤 H (𝓣 .C) (𝓣 .Λ) code.function) (append.spec 𝓤 H A mem run)
 append-meets 𝓤 H A W mem run 𝓣 known =
     walk-meets 𝓤 H A append.ended stayed W (spent-goes 𝓤 H A W, (goes-none 𝓤 H A W 1 (λ _. F.the-row) yes (λ κs x f. refl), tt)) (append.clauses 𝓤 H A mem run)
@@ -180,6 +180,6 @@ pub append-spec : {M : Type 1} → stated.statement M
 unfolding code.routine tablesOf
 append-spec 𝓤 H 𝓜 𝓖 𝓡 =
     entered 𝓤 H (tripleOf 𝓤 H (𝓖 .A) append.signature (append.spec 𝓤 H (𝓖 .A) (𝓜 .mem) (𝓡 .run)))
-    (tables 𝓤 H 𝓜 𝓡 code.env .C) (tables 𝓤 H 𝓜 𝓡 code.env .Λ) #listing·append code.function (code.unfolded 𝓤 H 𝓜 𝓡)
+    (tables 𝓤 H 𝓜 𝓡 code.env .C) (tables 𝓤 H 𝓜 𝓡 code.env .Λ) #list-writer·append code.function (code.unfolded 𝓤 H 𝓜 𝓡)
     (append-meets 𝓤 H (𝓖 .A) (givenOf 𝓤 H 𝓜 𝓖) (𝓜 .mem) (𝓡 .run) (tablesOf 𝓤 H 𝓜 (tables 𝓤 H 𝓜 𝓡 code.env))
-    (cited 𝓤 H (Place 𝓤 H (𝓖 .A) (𝓜 .mem) (𝓡 .run)) 𝓜 𝓡 code.env #listing·place place-def.routine code.calls-listing·place (place-thm.met 𝓤 H 𝓜 𝓖 𝓡)))
+    (cited 𝓤 H (Place 𝓤 H (𝓖 .A) (𝓜 .mem) (𝓡 .run)) 𝓜 𝓡 code.env #list-writer·place place-def.routine code.calls-list-writer·place (place-thm.met 𝓤 H 𝓜 𝓖 𝓡)))

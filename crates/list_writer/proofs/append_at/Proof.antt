@@ -51,13 +51,13 @@ use Rattle.list_writer.proofs.Listing as T
 use Rattle.list_writer.proofs.Listing.Laws as T′
 use Rattle.list_writer.proofs.hold as hold
 use Rattle.list_writer.proofs.hold.Symbol as hold-def
-use Rattle.list_writer.proofs.hold.Symbol.{name as #listing·hold}
+use Rattle.list_writer.proofs.hold.Symbol.{name as #list-writer·hold}
 use Rattle.list_writer.proofs.hold.Met as hold-thm
 use Rattle.list_writer.proofs.append as append
 use Rattle.list_writer.proofs.append.Symbol as append-def
-use Rattle.list_writer.proofs.append.Symbol.{name as #listing·append}
+use Rattle.list_writer.proofs.append.Symbol.{name as #list-writer·append}
 use Rattle.list_writer.proofs.append.Met as append-thm
-use Rattle.list_writer.proofs.append_at.Key.{name as #listing·append-at}
+use Rattle.list_writer.proofs.append_at.Key.{name as #list-writer·append-at}
 use Rattle.list_writer.proofs.append_at as append-at
 use Rattle.list_writer.proofs.append_at.Statement as stated
 use Rattle.list_writer.proofs.append_at.Code as code
@@ -154,7 +154,7 @@ module _ {M : Type 1} (𝓤 : URA M) (H : Heap 𝓤) (A : Atoms 𝓤) (W : Given
       owned ! usize (Is usize) (uint-makes 𝓤 H A W w64) m _ (refl, m-fits) $
       nothing ! $ owned ! F.the-row (Is F.the-row) (LL.makes F.the-type F′.the-plain 𝓤 H A) f _ f-is $ fjoin ! $ owned ! usize (Is usize) (uint-makes 𝓤 H A W w64) n _ (refl, n-fits) $ fjoin ! $ move ! (2 ∷ 0 ∷ []) $ fjoin ! $ done !
 
-  module _ (C : Calls 𝓤 H) (Λ : Loops 𝓤 H) (fm : FmC 𝓤 H (W .laws) C) (known-hold : Triple 𝓤 (C #listing·hold) (Hold 𝓤 H A mem run)) (known-append : Triple 𝓤 (C #listing·append) (Append 𝓤 H A mem run)) where
+  module _ (C : Calls 𝓤 H) (Λ : Loops 𝓤 H) (fm : FmC 𝓤 H (W .laws) C) (known-hold : Triple 𝓤 (C #list-writer·hold) (Hold 𝓤 H A mem run)) (known-append : Triple 𝓤 (C #list-writer·append) (Append 𝓤 H A mem run)) where
     walk : Room u32 (length ys) → ent 𝓤 (onEntry 𝓤 H A append-at.signature (κ, tt) (q, tt) a vals) (WpFn 𝓤 H C Λ code.function (s ∷ vint w64 n ∷ fv ∷ []) Post)
     walk room =
         qed W ((‵ (flft κ q) ⊛ ‵ ftrue) ∷ ‵ (owns (MutSlice (named 0) κ u32 ∷ usize ∷ F.the-row ∷ []) a vals) ∷ []) ∵ enter ! C Λ code.function (s ∷ vint w64 n ∷ fv ∷ []) _ $
@@ -187,7 +187,7 @@ module _ {M : Type 1} (𝓤 : URA M) (H : Heap 𝓤) (A : Atoms 𝓤) (W : Given
         keep ! (2 ∷ 0 ∷ []) $ by ! (exits (LL.owed (T.the-type α) (T′.the-laws α) h₁ _ is₁ .1 .0 .1)))))))))))))))))))
 
 module _ {M : Type 1} (𝓤 : URA M) (H : Heap 𝓤) (A : Atoms 𝓤) (W : Given 𝓤 H A) (mem : Memory → SProp 𝓤) (run : Routine → Fun 𝓤) where
-  append-at-walks : (C : Calls 𝓤 H) (Λ : Loops 𝓤 H) → FmC 𝓤 H (W .laws) C → Triple 𝓤 (C #listing·hold) (Hold 𝓤 H A mem run) → Triple 𝓤 (C #listing·append) (Append 𝓤 H A mem run)
+  append-at-walks : (C : Calls 𝓤 H) (Λ : Loops 𝓤 H) → FmC 𝓤 H (W .laws) C → Triple 𝓤 (C #list-writer·hold) (Hold 𝓤 H A mem run) → Triple 𝓤 (C #list-writer·append) (Append 𝓤 H A mem run)
       → Walks 𝓤 H A append-at.ended stayed (WpFn 𝓤 H C Λ code.function) (append-at.clauses 𝓤 H A mem run)
   append-at-walks C Λ fm known-hold known-append = walked 𝓤 H A append-at.ended stayed (append-at.clauses 𝓤 H A mem run) (WpFn 𝓤 H C Λ code.function)
       (λ κs. (slice-vals, (uint-vals w64, (LL.vals F.the-type F′.the-laws, tt)))) (λ κs. (mut-slice-tells (named 0) (κs .0) u32, (uint-tells w64, (LL.tells F.the-type F′.the-laws, tt))))
@@ -195,7 +195,7 @@ module _ {M : Type 1} (𝓤 : URA M) (H : Heap 𝓤) (A : Atoms 𝓤) (W : Given
       (walk 𝓤 H A W mem run (κs .0) (qs .0) (a .0 .ptr .0) (a .0 .ptr .1) (a .0 .name) (a .0 .now) (a .1 .0) (a .1 .1 .0) (are .1 .0 .1) (are .1 .1 .0) C Λ fm known-hold known-append (are .0 .0 .1)))
 
 append-at-meets : {M : Type 1} (𝓤 : URA M) (H : Heap 𝓤) (A : Atoms 𝓤) → Given 𝓤 H A → (mem : Memory → SProp 𝓤) (run : Routine → Fun 𝓤) (𝓣 : Tables 𝓤 H)
-    → Triple 𝓤 (𝓣 .C #listing·hold) (Hold 𝓤 H A mem run) → Triple 𝓤 (𝓣 .C #listing·append) (Append 𝓤 H A mem run)
+    → Triple 𝓤 (𝓣 .C #list-writer·hold) (Hold 𝓤 H A mem run) → Triple 𝓤 (𝓣 .C #list-writer·append) (Append 𝓤 H A mem run)
     → Meets 𝓤 H A append-at.signature (WpFn 𝓤 H (𝓣 .C) (𝓣 .Λ) code.function) (append-at.spec 𝓤 H A mem run)
 append-at-meets 𝓤 H A W mem run 𝓣 known-hold known-append =
     walk-meets 𝓤 H A append-at.ended stayed W (goes-slice 𝓤 H A W 1 0 tt (plain (λ _. u32)), (goes-none 𝓤 H A W 1 (λ _. usize) yes (λ κs x f. refl), (goes-none 𝓤 H A W 1 (λ _. F.the-row) yes (λ κs x f. refl), tt))) (append-at.clauses 𝓤 H A mem run)
@@ -205,7 +205,7 @@ pub append-at-spec : {M : Type 1} → stated.statement M
 unfolding code.routine tablesOf
 append-at-spec 𝓤 H 𝓜 𝓖 𝓡 =
     entered 𝓤 H (tripleOf 𝓤 H (𝓖 .A) append-at.signature (append-at.spec 𝓤 H (𝓖 .A) (𝓜 .mem) (𝓡 .run)))
-    (tables 𝓤 H 𝓜 𝓡 code.env .C) (tables 𝓤 H 𝓜 𝓡 code.env .Λ) #listing·append-at code.function (code.unfolded 𝓤 H 𝓜 𝓡)
+    (tables 𝓤 H 𝓜 𝓡 code.env .C) (tables 𝓤 H 𝓜 𝓡 code.env .Λ) #list-writer·append-at code.function (code.unfolded 𝓤 H 𝓜 𝓡)
     (append-at-meets 𝓤 H (𝓖 .A) (givenOf 𝓤 H 𝓜 𝓖) (𝓜 .mem) (𝓡 .run) (tablesOf 𝓤 H 𝓜 (tables 𝓤 H 𝓜 𝓡 code.env))
-    (cited 𝓤 H (Hold 𝓤 H (𝓖 .A) (𝓜 .mem) (𝓡 .run)) 𝓜 𝓡 code.env #listing·hold hold-def.routine code.calls-listing·hold (hold-thm.met 𝓤 H 𝓜 𝓖 𝓡))
-    (cited 𝓤 H (Append 𝓤 H (𝓖 .A) (𝓜 .mem) (𝓡 .run)) 𝓜 𝓡 code.env #listing·append append-def.routine code.calls-listing·append (append-thm.met 𝓤 H 𝓜 𝓖 𝓡)))
+    (cited 𝓤 H (Hold 𝓤 H (𝓖 .A) (𝓜 .mem) (𝓡 .run)) 𝓜 𝓡 code.env #list-writer·hold hold-def.routine code.calls-list-writer·hold (hold-thm.met 𝓤 H 𝓜 𝓖 𝓡))
+    (cited 𝓤 H (Append 𝓤 H (𝓖 .A) (𝓜 .mem) (𝓡 .run)) 𝓜 𝓡 code.env #list-writer·append append-def.routine code.calls-list-writer·append (append-thm.met 𝓤 H 𝓜 𝓖 𝓡)))

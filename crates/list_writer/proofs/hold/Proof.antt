@@ -37,7 +37,7 @@ use denote.Exit.{yes, no}
 use Rattle.list_writer.specs.declared.Listing.{Listing}
 use Rattle.list_writer.proofs.Listing as T
 use Rattle.list_writer.proofs.Listing.Laws as T′
-use Rattle.list_writer.proofs.hold.Key.{name as #listing·hold}
+use Rattle.list_writer.proofs.hold.Key.{name as #list-writer·hold}
 use Rattle.list_writer.proofs.hold as hold
 use Rattle.list_writer.proofs.hold.Statement as stated
 use Rattle.list_writer.proofs.hold.Code as code
@@ -108,5 +108,5 @@ pub hold-spec : {M : Type 1} → stated.statement M
 unfolding code.routine tablesOf
 hold-spec 𝓤 H 𝓜 𝓖 𝓡 =
     entered 𝓤 H (tripleOf 𝓤 H (𝓖 .A) hold.signature (hold.spec 𝓤 H (𝓖 .A) (𝓜 .mem) (𝓡 .run)))
-    (tables 𝓤 H 𝓜 𝓡 code.env .C) (tables 𝓤 H 𝓜 𝓡 code.env .Λ) #listing·hold code.function (code.unfolded 𝓤 H 𝓜 𝓡)
+    (tables 𝓤 H 𝓜 𝓡 code.env .C) (tables 𝓤 H 𝓜 𝓡 code.env .Λ) #list-writer·hold code.function (code.unfolded 𝓤 H 𝓜 𝓡)
     (hold-meets 𝓤 H (𝓖 .A) (givenOf 𝓤 H 𝓜 𝓖) (𝓜 .mem) (𝓡 .run) (tablesOf 𝓤 H 𝓜 (tables 𝓤 H 𝓜 𝓡 code.env)))

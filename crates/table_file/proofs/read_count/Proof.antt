@@ -4,12 +4,13 @@ use Prim.Native.Nat.{_≤_, _-_}
 use native.Mathlib.Omega.{arith}
 use lib.ListN.{length, getD}
 use borrow.Author.Needs.{needs}
+use Rattle.xml_reader.specs.Limits.{rowsLimit}
 use Rattle.table_file.proofs.Counts.{Counting, digit-least, no-count, none, leading-zero, starts, no-digit, digit-on, too-many, counted}
 use Rattle.table_file.proofs.read_count.Statement.{statement}
 use Rattle.table_file.proofs.read_count.Tie as tie
 
 abbrev Inv-loop : tie.InvT-loop
-Inv-loop line v₀ i₀ v i = Counting line v i × (v ≤ 65535)
+Inv-loop line v₀ i₀ v i = Counting line v i × (v ≤ rowsLimit)
 
 abbrev μ-loop : tie.MeasureT-loop
 μ-loop line v₀ i₀ v i = length line - i

@@ -2,7 +2,7 @@
 -- Assumes nothing.
 use Rattle.table_index.specs.Indexed.{keepsRow}
 use Rattle.table_rows.proofs.Tests.{no-first}
-use Rattle.table_index.proofs.Questions.{but}
+use Rattle.table_index.proofs.Lookups.{but}
 use borrow.Author.Needs.{needs}
 use Rattle.table_index.proofs.is_elsewhere.Statement.{statement}
 use Rattle.table_index.proofs.is_elsewhere.Tie as tie

@@ -1,7 +1,7 @@
 -- `table_lines::field` meets its contract: what stands from the field's start up to a tab.
 -- Assumes nothing.
 use Rattle.table_lines.proofs.Runs.{ahead, within}
-use Rattle.table_lines.proofs.Fields.{start-most, part}
+use Rattle.table_lines.proofs.Fields.{start-most, field-part}
 use borrow.Author.Needs.{needs}
 use Rattle.table_lines.proofs.field.Statement.{statement}
 use Rattle.table_lines.proofs.field.Tie as tie
@@ -22,7 +22,7 @@ part-result-end : tie.Need-part-result-end
 part-result-end c = search (within, start-most)
 
 returns : tie.Need-returns
-returns c = search part
+returns c = search field-part
 
 pub field-spec : {M : Type 1} → statement M
 field-spec =

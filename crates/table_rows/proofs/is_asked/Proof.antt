@@ -15,8 +15,8 @@ is-code-requires c κs = search needs
 enum-told-2 : tie.Need-enum-told-2
 enum-told-2 c = search needs
 
-is-name-requires : tie.Need-is-name-requires
-is-name-requires c κs = search needs
+is-registered-requires : tie.Need-is-registered-requires
+is-registered-requires c κs = search needs
 
 enum-told-3 : tie.Need-enum-told-3
 enum-told-3 c = search needs
@@ -73,7 +73,7 @@ is-asked-spec =
     enum-told
     is-code-requires
     enum-told-2
-    is-name-requires
+    is-registered-requires
     enum-told-3
     field-is-requires
     enum-told-4

@@ -578,8 +578,8 @@ module _ (claims· : Claims) where
     module _ (M : Type 1) where
       abbrev pub Closed : Type 2
       Closed = (𝓤 : URA.URA M) (H : Wp.Heap 𝓤) (A : Atoms.Atoms 𝓤) (W : Kit.Given 𝓤 H A) (𝓣 : Wp.Tables 𝓤 H) (known0 : Plain.Known 𝓤 H A W 𝓣 1 ps·0 r·0 (claims· .0) (claims· .1)
-          "list_merge_records::record_at") (known1 : Plain.Known 𝓤 H A W 𝓣 0 ps·1 r·1 (claims· .2) (claims· .3) "list_merge_records::follows") → Statement.Triple 𝓤 (Wp.WpFn 𝓤 H (𝓣 .C) (𝓣 .Λ) (Function.fnOf 1
-          ps r xs m hs body)) (Function.plainOf 𝓤 H A 1 ps r Pre· Post·)
+          "list_merge_records::record_at") (known1 : Plain.Known 𝓤 H A W 𝓣 0 ps·1 r·1 (claims· .2) (claims· .3) "list_merge_records::follows") → Statement.Triple 𝓤 (Wp.WpFn 𝓤 H (𝓣 .C) (𝓣 .Λ)
+          (Function.fnOf 1 ps r xs m hs body)) (Function.plainOf 𝓤 H A 1 ps r Pre· Post·)
 
     module _ (Inv·0 : InvT-loop) (μ·0 : MeasureT-loop) where
       abbrev at0 : Typed.TF T10 O4
@@ -902,8 +902,8 @@ module _ (claims· : Claims) where
               Path'.refl)) d20
 
           d22 : Typed.Typed 𝓤 H A 𝓣 E G13 b20 Δ3 at22
-          d22 = Typed.s-seq 𝓤 H A W 𝓣 E G13 G14 b8 b19 Δ3 (Typed.both s10) at21 (Plain.t-call-plain 𝓤 H A W 𝓣 0 ps·1 r·1 (claims· .2) (claims· .3) "list_merge_records::follows" (known .1) E (λ pos β. β)
-              G13 (record { pos = 2; st = List.[]; d = 0; at = λ x. x }, (record { pos = 4; st = List.[]; d = 0; at = λ x. x }, tt)) 6 List.[] (Call.sub-id 𝓤 H A W (G13 .slots)) (
+          d22 = Typed.s-seq 𝓤 H A W 𝓣 E G13 G14 b8 b19 Δ3 (Typed.both s10) at21 (Plain.t-call-plain 𝓤 H A W 𝓣 0 ps·1 r·1 (claims· .2) (claims· .3) "list_merge_records::follows" (known .1) E (λ pos β.
+              β) G13 (record { pos = 2; st = List.[]; d = 0; at = λ x. x }, (record { pos = 4; st = List.[]; d = 0; at = λ x. x }, tt)) 6 List.[] (Call.sub-id 𝓤 H A W (G13 .slots)) (
                 (
                   Yields.yields-copy 𝓤 H A W (λ ρ. Unit) (Declared'.row Finding.the-type) Path'.refl (Copies.cStruct Finding.the-type Laws.the-laws Laws.the-copy .copy 𝓤 H A W) (Rows.whole (Declared'.row
                       Finding.the-type)) (λ x. x) (λ x. x) (λ ρ told. Local.mem-whole 𝓤 H A W (Declared'.row Finding.the-type) ρ) λ ρ told. Local.whole-mem 𝓤 H A W (Declared'.row Finding.the-type) ρ,
@@ -921,8 +921,8 @@ module _ (claims· : Claims) where
               ) (Reads.room-gone 𝓤 H A Syntax.tyBool) tt Path'.refl) d21
 
           d23 : Typed.Typed 𝓤 H A 𝓣 E G8 b21 Δ3 at23
-          d23 = Typed.s-seq 𝓤 H A W 𝓣 E G8 G13 b7 b20 Δ3 (Typed.both s9) at22 (Plain.t-call-plain 𝓤 H A W 𝓣 1 ps·0 r·0 (claims· .0) (claims· .1) "list_merge_records::record_at" (known .0) E (λ pos β. β)
-              G8 (record { pos = 1; ty = Syntax.tyRef (Syntax.named 0) Syntax.imm (Memory.pointee (Finding.the-row .written)); ref = λ x. x }, (Num.vAt 3 λ x. x, tt)) 4 (List._∷_ 0 List.[])
+          d23 = Typed.s-seq 𝓤 H A W 𝓣 E G8 G13 b7 b20 Δ3 (Typed.both s9) at22 (Plain.t-call-plain 𝓤 H A W 𝓣 1 ps·0 r·0 (claims· .0) (claims· .1) "list_merge_records::record_at" (known .0) E (λ pos β.
+              β) G8 (record { pos = 1; ty = Syntax.tyRef (Syntax.named 0) Syntax.imm (Memory.pointee (Finding.the-row .written)); ref = λ x. x }, (Num.vAt 3 λ x. x, tt)) 4 (List._∷_ 0 List.[])
               (Call.sub-id 𝓤 H A W (G8 .slots)) (
                 ShrSlice.spares-sslice 𝓤 H A W (Declared'.row Finding.the-type) (Syntax.tyRef (Syntax.named 0) Syntax.imm (Memory.pointee (Finding.the-row
                     .written))) 0,

@@ -231,8 +231,8 @@ abbrev b4 : Syntax.Body
 b4 = Syntax.assign (Syntax.place 9 List.[]) (Syntax.op2 (Syntax.div Syntax.unsigned) (Syntax.copy (Syntax.place 8 List.[])) (Syntax.int Syntax.w64 3))
 
 abbrev b5 : Syntax.Body
-b5 = Syntax.call "list_merge_records::judge" (List._∷_ (Syntax.copy (Syntax.place 5 List.[])) (List._∷_ (Syntax.copy (Syntax.place 6 List.[])) (List._∷_ (Syntax.copy (Syntax.place 7 List.[])) (List._∷_
-    (Syntax.copy (Syntax.place 9 List.[])) List.[])))) (Syntax.place 4 List.[])
+b5 = Syntax.call "list_merge_records::judge" (List._∷_ (Syntax.copy (Syntax.place 5 List.[])) (List._∷_ (Syntax.copy (Syntax.place 6 List.[])) (List._∷_ (Syntax.copy (Syntax.place 7 List.[]))
+    (List._∷_ (Syntax.copy (Syntax.place 9 List.[])) List.[])))) (Syntax.place 4 List.[])
 
 abbrev b6 : Syntax.Body
 b6 = Syntax.skip
@@ -687,9 +687,9 @@ module _ (claims· : Claims) where
     module _ (M : Type 1) where
       abbrev pub Closed : Type 2
       Closed = (𝓤 : URA.URA M) (H : Wp.Heap 𝓤) (A : Atoms.Atoms 𝓤) (W : Kit.Given 𝓤 H A) (𝓣 : Wp.Tables 𝓤 H) (known0 : Plain.Known 𝓤 H A W 𝓣 1 ps·0 r·0 (claims· .0) (claims· .1)
-          "list_merge_records::first_bad") (known1 : Plain.Known 𝓤 H A W 𝓣 2 ps·1 r·1 (claims· .2) (claims· .3) "list_merge_records::survey") (known2 : Plain.Known 𝓤 H A W 𝓣 0 ps·2 r·2 (claims· .4) (claims·
-          .5) "list_merge_records::judge") (known3 : Plain.Known 𝓤 H A W 𝓣 3 ps·3 r·3 (claims· .6) (claims· .7) "list_merge_records::write") → Statement.Triple 𝓤 (Wp.WpFn 𝓤 H (𝓣 .C) (𝓣 .Λ) (Function.fnOf 3
-          ps r xs m hs body)) (Function.plainOf 𝓤 H A 3 ps r Pre· Post·)
+          "list_merge_records::first_bad") (known1 : Plain.Known 𝓤 H A W 𝓣 2 ps·1 r·1 (claims· .2) (claims· .3) "list_merge_records::survey") (known2 : Plain.Known 𝓤 H A W 𝓣 0 ps·2 r·2 (claims· .4)
+          (claims· .5) "list_merge_records::judge") (known3 : Plain.Known 𝓤 H A W 𝓣 3 ps·3 r·3 (claims· .6) (claims· .7) "list_merge_records::write") → Statement.Triple 𝓤 (Wp.WpFn 𝓤 H (𝓣 .C) (𝓣 .Λ)
+          (Function.fnOf 3 ps r xs m hs body)) (Function.plainOf 𝓤 H A 3 ps r Pre· Post·)
 
     module _ where
       abbrev at0 : Typed.TF T15 O1
@@ -1317,47 +1317,47 @@ module _ (claims· : Claims) where
           d18 = Typed.g-pre 𝓤 H A W 𝓣 E G22 G23 b16 Δ0 (Typed.pass T22 T23 s20) at17 (Scalar.g-room 𝓤 H A W E G22 10 Syntax.tyUnit (Scalar.room-sc 𝓤 H A W Row.sUnit)) d17
 
           d19 : Typed.Typed 𝓤 H A 𝓣 E G21 b17 Δ0 at19
-          d19 = Typed.s-seq 𝓤 H A W 𝓣 E G21 G22 b13 b16 Δ0 (Typed.both s19) at18 (Plain.t-call-plain 𝓤 H A W 𝓣 3 ps·3 r·3 (claims· .6) (claims· .7) "list_merge_records::write" (known .3) E (λ pos β. β)
-              G21 (
+          d19 = Typed.s-seq 𝓤 H A W 𝓣 E G21 G22 b13 b16 Δ0 (Typed.both s19) at18 (Plain.t-call-plain 𝓤 H A W 𝓣 3 ps·3 r·3 (claims· .6) (claims· .7) "list_merge_records::write" (known .3) E (λ pos β.
+              β) G21 (
                 record { pos = 1; ty = Syntax.tyRef (Syntax.named 0) Syntax.imm (Memory.pointee (Finding.the-row .written)); ref = λ x. x },
                 (
                   record {
                     pos = 2;
-                    ty = Syntax.tyRef (Syntax.named
-                        1) Syntax.imm (Memory.pointee (Finding.the-row .written));
+                    ty = Syntax.tyRef
+                        (Syntax.named 1) Syntax.imm (Memory.pointee (Finding.the-row .written));
                     ref = λ x. x;
                   },
                   (
-                    record { pos = 12; ty = Syntax.tyRef Syntax.erased Syntax.mut (Syntax.tyInt Syntax.w32); ref = λ x. x },
+                    record {
+                      pos = 12;
+                      ty = Syntax.tyRef Syntax.erased Syntax.mut (Syntax.tyInt Syntax.w32);
+                      ref
+                          = λ x. x;
+                    },
                     tt,
                   ),
                 ),
               ) 10 (List._∷_ 0 (List._∷_ 1 (List._∷_ 3 List.[]))) (Call.sub-id 𝓤 H A W (G21 .slots)) (
-                ShrSlice.spares-sslice 𝓤 H A W (Declared′.row Finding.the-type) (Syntax.tyRef
-                    (Syntax.named 0) Syntax.imm (Memory.pointee (Finding.the-row .written))) 0,
-                Shared.reads-sslice 𝓤 H A W (Declared′.row Finding.the-type) (Syntax.tyRef (Syntax.named 0) Syntax.imm
-                    (Memory.pointee (Finding.the-row .written))) 0,
+                ShrSlice.spares-sslice 𝓤 H A W (Declared′.row Finding.the-type)
+                    (Syntax.tyRef (Syntax.named 0) Syntax.imm (Memory.pointee (Finding.the-row .written))) 0,
+                Shared.reads-sslice 𝓤 H A W (Declared′.row Finding.the-type) (Syntax.tyRef (Syntax.named 0)
+                    Syntax.imm (Memory.pointee (Finding.the-row .written))) 0,
                 Path'.refl,
                 (
-                  ShrSlice.spares-sslice 𝓤 H A W (Declared′.row Finding.the-type) (Syntax.tyRef (Syntax.named 1) Syntax.imm (Memory.pointee
-                      (Finding.the-row .written))) 1,
-                  Shared.reads-sslice 𝓤 H A W (Declared′.row Finding.the-type) (Syntax.tyRef (Syntax.named 1) Syntax.imm (Memory.pointee (Finding.the-row .written))) 1,
+                  ShrSlice.spares-sslice 𝓤 H A W (Declared′.row Finding.the-type) (Syntax.tyRef (Syntax.named 1) Syntax.imm
+                      (Memory.pointee (Finding.the-row .written))) 1,
+                  Shared.reads-sslice 𝓤 H A W (Declared′.row Finding.the-type) (Syntax.tyRef (Syntax.named 1) Syntax.imm (Memory.pointee (Finding.the-row
+                      .written))) 1,
                   Path'.refl,
                   (
                     Reads.as-is 𝓤 H A (Mut.mslice (Referent.rtF (Referent.fInt Syntax.w32)) (Syntax.tyRef Syntax.erased Syntax.mut (Syntax.tyInt Syntax.w32)) 3),
-                    Mut.reads-mslice 𝓤 H A W
-                        (Referent.rtF (Referent.fInt Syntax.w32)) (Syntax.tyRef Syntax.erased Syntax.mut (Syntax.tyInt Syntax.w32)) 3,
+                    Mut.reads-mslice 𝓤 H A W (Referent.rtF (Referent.fInt Syntax.w32)) (Syntax.tyRef Syntax.erased Syntax.mut (Syntax.tyInt Syntax.w32)) 3,
                     Path'.refl,
                     tt,
                   ),
                 ),
-              ) (Reads.room-gone 𝓤 H A Syntax.tyUnit) (
-                tt,
-                (
-                  tt,
-                  (tt, tt),
-                ),
-              ) Path'.refl) d18
+              ) (Reads.room-gone 𝓤 H A
+              Syntax.tyUnit) (tt, (tt, (tt, tt))) Path'.refl) d18
 
           d20 : Typed.Typed 𝓤 H A 𝓣 E G20 b18 Δ0 at20
           d20 = Typed.s-seq 𝓤 H A W 𝓣 E G20 G21 b12 b17 Δ0 (Typed.ask s18) at19 (Relend.t-sl-aggregate 𝓤 H A W E (Referent.rtF (Referent.fInt Syntax.w32)) 𝓣 (Relend.asMut (Referent.rtF (Referent.fInt
@@ -1383,44 +1383,46 @@ module _ (claims· : Claims) where
           d23 = Typed.t-seq 𝓤 H A W 𝓣 E G9 G10 b10 b19 Δ0 at10 at22 d10 d22
 
           d24 : Typed.Typed 𝓤 H A 𝓣 E G8 b21 Δ0 at24
-          d24 = Typed.s-seq 𝓤 H A W 𝓣 E G8 G9 b5 b20 Δ0 (Typed.both s7) at23 (Plain.t-call-plain 𝓤 H A W 𝓣 0 ps·2 r·2 (claims· .4) (claims· .5) "list_merge_records::judge" (known .2) E (λ pos β. β) G8 (
-            record { pos = 5; st = List.[]; d = 0; at = λ x. x },
-            (
-              record { pos = 6; st = List.[]; d = 0; at = λ x. x },
-              (
-                record { pos = 7; st = List.[]; d = 0; at = λ x. x },
+          d24 = Typed.s-seq 𝓤 H A W 𝓣 E G8 G9 b5 b20 Δ0 (Typed.both s7) at23 (Plain.t-call-plain 𝓤 H A W 𝓣 0 ps·2 r·2 (claims· .4) (claims· .5) "list_merge_records::judge" (known .2) E (λ pos β. β)
+              G8 (
+                record { pos = 5; st = List.[]; d = 0; at = λ x. x },
                 (
-                  Num.vAt 9 λ x. x,
-                  tt,
+                  record { pos = 6; st = List.[]; d = 0; at = λ x. x },
+                  (
+                    record { pos = 7; st = List.[]; d = 0; at = λ x. x },
+                    (
+                      Num.vAt 9 λ x.
+                          x,
+                      tt,
+                    ),
+                  ),
                 ),
-              ),
-            ),
-          ) 4 List.[] (Call.sub-id 𝓤 H A W (G8 .slots)) (
-            (
-              Yields.yields-copy 𝓤 H A W (λ ρ. Unit) (Declared.row Found.the-type) Path'.refl (Copies.cEnum Found.the-type Laws''.the-laws
-                  Laws''.the-copy .copy 𝓤 H A W) (Rows.whole (Declared.row Found.the-type)) (λ x. x) (λ x. x) (λ ρ told. Local.mem-whole 𝓤 H A W (Declared.row Found.the-type) ρ) λ ρ told. Local.whole-mem
-                  𝓤 H A W (Declared.row Found.the-type) ρ,
-              Path'.refl,
-            ),
-            (
-              (
-                Yields.yields-copy 𝓤 H A W (λ ρ. Unit) (Declared.row Found.the-type) Path'.refl (Copies.cEnum Found.the-type Laws''.the-laws
-                    Laws''.the-copy .copy 𝓤 H A W) (Rows.whole (Declared.row Found.the-type)) (λ x. x) (λ x. x) (λ ρ told. Local.mem-whole 𝓤 H A W (Declared.row Found.the-type) ρ) λ ρ told. Local.whole-mem
-                    𝓤 H A W (Declared.row Found.the-type) ρ,
-                Path'.refl,
-              ),
-              (
+              ) 4 List.[] (Call.sub-id 𝓤 H A W (G8 .slots)) (
                 (
-                  Yields.yields-copy 𝓤 H A W (λ ρ. Unit) (Declared.row Surveyed.the-type) Path'.refl (Copies.cEnum Surveyed.the-type
-                      Laws'.the-laws Laws'.the-copy .copy 𝓤 H A W) (Rows.whole (Declared.row Surveyed.the-type)) (λ x. x) (λ x. x) (λ ρ told. Local.mem-whole 𝓤 H A W (Declared.row Surveyed.the-type) ρ) λ ρ
-                      told. Local.whole-mem 𝓤 H A W (Declared.row Surveyed.the-type) ρ,
+                  Yields.yields-copy 𝓤 H A W (λ ρ. Unit) (Declared.row Found.the-type) Path'.refl (Copies.cEnum Found.the-type
+                      Laws''.the-laws Laws''.the-copy .copy 𝓤 H A W) (Rows.whole (Declared.row Found.the-type)) (λ x. x) (λ x. x) (λ ρ told. Local.mem-whole 𝓤 H A W (Declared.row Found.the-type) ρ) λ ρ told.
+                      Local.whole-mem 𝓤 H A W (Declared.row Found.the-type) ρ,
                   Path'.refl,
                 ),
-                ((Scalar.reads-sc 𝓤 H A W (Row.sInt Syntax.w64), Path'.refl), tt),
-              ),
-            ),
-          ) (Reads.room-gone 𝓤 H A
-              (Laws.mir)) tt Path'.refl) d23
+                (
+                  (
+                    Yields.yields-copy 𝓤 H A W (λ ρ. Unit) (Declared.row Found.the-type) Path'.refl (Copies.cEnum Found.the-type
+                        Laws''.the-laws Laws''.the-copy .copy 𝓤 H A W) (Rows.whole (Declared.row Found.the-type)) (λ x. x) (λ x. x) (λ ρ told. Local.mem-whole 𝓤 H A W (Declared.row Found.the-type) ρ) λ ρ told.
+                        Local.whole-mem 𝓤 H A W (Declared.row Found.the-type) ρ,
+                    Path'.refl,
+                  ),
+                  (
+                    (
+                      Yields.yields-copy 𝓤 H A W (λ ρ. Unit) (Declared.row Surveyed.the-type) Path'.refl (Copies.cEnum
+                          Surveyed.the-type Laws'.the-laws Laws'.the-copy .copy 𝓤 H A W) (Rows.whole (Declared.row Surveyed.the-type)) (λ x. x) (λ x. x) (λ ρ told. Local.mem-whole 𝓤 H A W (Declared.row
+                          Surveyed.the-type) ρ) λ ρ told. Local.whole-mem 𝓤 H A W (Declared.row Surveyed.the-type) ρ,
+                      Path'.refl,
+                    ),
+                    ((Scalar.reads-sc 𝓤 H A W (Row.sInt Syntax.w64), Path'.refl), tt),
+                  ),
+                ),
+              )
+              (Reads.room-gone 𝓤 H A (Laws.mir)) tt Path'.refl) d23
 
           d25 : Typed.Typed 𝓤 H A 𝓣 E G7 b21 Δ0 at25
           d25 = Typed.g-pre 𝓤 H A W 𝓣 E G7 G8 b21 Δ0 (Typed.pass T7 T8 s6) at24 (Scalar.g-room 𝓤 H A W E G7 8 (Syntax.tyInt Syntax.w64) (Scalar.room-sc 𝓤 H A W (Row.sInt Syntax.w64))) d24
@@ -1443,56 +1445,55 @@ module _ (claims· : Claims) where
               (Scalar.holds-sc 𝓤 H A W (Row.sInt Syntax.w64)) Path'.refl (λ u. Path'.refl) λ u. tt) d26
 
           d28 : Typed.Typed 𝓤 H A 𝓣 E G4 b24 Δ0 at28
-          d28 = Typed.s-seq 𝓤 H A W 𝓣 E G4 G5 b2 b23 Δ0 (Typed.both s3) at27 (Plain.t-call-plain 𝓤 H A W 𝓣 2 ps·1 r·1 (claims· .2) (claims· .3) "list_merge_records::survey" (known .1) E (λ pos β. β) G4 (
-            record { pos = 1; ty = Syntax.tyRef (Syntax.named 0) Syntax.imm (Memory.pointee (Finding.the-row .written)); ref = λ x. x },
-            (
-              record {
-                pos = 2;
-                ty = Syntax.tyRef (Syntax.named 1)
-                    Syntax.imm (Memory.pointee (Finding.the-row .written));
-                ref = λ x. x;
-              },
-              tt,
-            ),
-          ) 7 (List._∷_ 0 (List._∷_ 1 List.[])) (Call.sub-id 𝓤 H A W (G4 .slots)) (
-            ShrSlice.spares-sslice 𝓤 H A W
-                (Declared′.row Finding.the-type) (Syntax.tyRef (Syntax.named 0) Syntax.imm (Memory.pointee (Finding.the-row .written))) 0,
-            Shared.reads-sslice 𝓤 H A W (Declared′.row Finding.the-type)
-                (Syntax.tyRef (Syntax.named 0) Syntax.imm (Memory.pointee (Finding.the-row .written))) 0,
-            Path'.refl,
-            (
-              ShrSlice.spares-sslice 𝓤 H A W (Declared′.row Finding.the-type) (Syntax.tyRef
-                  (Syntax.named 1) Syntax.imm (Memory.pointee (Finding.the-row .written))) 1,
-              Shared.reads-sslice 𝓤 H A W (Declared′.row Finding.the-type) (Syntax.tyRef (Syntax.named 1) Syntax.imm
-                  (Memory.pointee (Finding.the-row .written))) 1,
-              Path'.refl,
-              tt,
-            ),
-          ) (Reads.room-gone 𝓤 H A (Laws'.mir)) (tt, (tt, tt)) Path'.refl) d27
+          d28 = Typed.s-seq 𝓤 H A W 𝓣 E G4 G5 b2 b23 Δ0 (Typed.both s3) at27 (Plain.t-call-plain 𝓤 H A W 𝓣 2 ps·1 r·1 (claims· .2) (claims· .3) "list_merge_records::survey" (known .1) E (λ pos β. β)
+              G4 (
+                record { pos = 1; ty = Syntax.tyRef (Syntax.named 0) Syntax.imm (Memory.pointee (Finding.the-row .written)); ref = λ x. x },
+                (
+                  record {
+                    pos = 2;
+                    ty = Syntax.tyRef (Syntax.named 1)
+                        Syntax.imm (Memory.pointee (Finding.the-row .written));
+                    ref = λ x. x;
+                  },
+                  tt,
+                ),
+              ) 7 (List._∷_ 0 (List._∷_ 1 List.[])) (Call.sub-id 𝓤 H A W (G4 .slots)) (
+                ShrSlice.spares-sslice 𝓤 H A W
+                    (Declared′.row Finding.the-type) (Syntax.tyRef (Syntax.named 0) Syntax.imm (Memory.pointee (Finding.the-row .written))) 0,
+                Shared.reads-sslice 𝓤 H A W (Declared′.row Finding.the-type)
+                    (Syntax.tyRef (Syntax.named 0) Syntax.imm (Memory.pointee (Finding.the-row .written))) 0,
+                Path'.refl,
+                (
+                  ShrSlice.spares-sslice 𝓤 H A W (Declared′.row Finding.the-type) (Syntax.tyRef
+                      (Syntax.named 1) Syntax.imm (Memory.pointee (Finding.the-row .written))) 1,
+                  Shared.reads-sslice 𝓤 H A W (Declared′.row Finding.the-type) (Syntax.tyRef (Syntax.named 1) Syntax.imm
+                      (Memory.pointee (Finding.the-row .written))) 1,
+                  Path'.refl,
+                  tt,
+                ),
+              ) (Reads.room-gone 𝓤 H A (Laws'.mir)) (tt, (tt, tt)) Path'.refl) d27
 
           d29 : Typed.Typed 𝓤 H A 𝓣 E G3 b25 Δ0 at29
-          d29 = Typed.s-seq 𝓤 H A W 𝓣 E G3 G4 b1 b24 Δ0 (Typed.both s2) at28 (Plain.t-call-plain 𝓤 H A W 𝓣 1 ps·0 r·0 (claims· .0) (claims· .1) "list_merge_records::first_bad" (known .0) E (λ pos β. β)
-              G3 (record { pos = 2; ty = Syntax.tyRef (Syntax.named 1) Syntax.imm (Memory.pointee (Finding.the-row .written)); ref = λ x. x }, tt) 6 (List._∷_ 1 List.[]) (Call.sub-id 𝓤 H A W (G3
-              .slots)) (
+          d29 = Typed.s-seq 𝓤 H A W 𝓣 E G3 G4 b1 b24 Δ0 (Typed.both s2) at28 (Plain.t-call-plain 𝓤 H A W 𝓣 1 ps·0 r·0 (claims· .0) (claims· .1) "list_merge_records::first_bad" (known .0) E (λ pos β.
+              β) G3 (record { pos = 2; ty = Syntax.tyRef (Syntax.named 1) Syntax.imm (Memory.pointee (Finding.the-row .written)); ref = λ x. x }, tt) 6 (List._∷_ 1 List.[]) (Call.sub-id 𝓤 H A W
+              (G3 .slots)) (
                 ShrSlice.spares-sslice 𝓤 H A W (Declared′.row Finding.the-type) (Syntax.tyRef (Syntax.named 1) Syntax.imm (Memory.pointee (Finding.the-row .written))) 1,
-                Shared.reads-sslice
-                    𝓤 H A W (Declared′.row Finding.the-type) (Syntax.tyRef (Syntax.named 1) Syntax.imm (Memory.pointee (Finding.the-row .written))) 1,
+                Shared.reads-sslice 𝓤 H A W (Declared′.row Finding.the-type) (Syntax.tyRef (Syntax.named 1) Syntax.imm (Memory.pointee (Finding.the-row .written))) 1,
                 Path'.refl,
                 tt,
-              ) (Reads.room-gone 𝓤 H A (Laws''.mir))
-              (tt, tt) Path'.refl) d28
+              ) (Reads.room-gone
+              𝓤 H A (Laws''.mir)) (tt, tt) Path'.refl) d28
 
           d30 : Typed.Typed 𝓤 H A 𝓣 E G2 b26 Δ0 at30
-          d30 = Typed.s-seq 𝓤 H A W 𝓣 E G2 G3 b0 b25 Δ0 (Typed.both s1) at29 (Plain.t-call-plain 𝓤 H A W 𝓣 1 ps·0 r·0 (claims· .0) (claims· .1) "list_merge_records::first_bad" (known .0) E (λ pos β. β)
-              G2 (record { pos = 1; ty = Syntax.tyRef (Syntax.named 0) Syntax.imm (Memory.pointee (Finding.the-row .written)); ref = λ x. x }, tt) 5 (List._∷_ 0 List.[]) (Call.sub-id 𝓤 H A W (G2
-              .slots)) (
+          d30 = Typed.s-seq 𝓤 H A W 𝓣 E G2 G3 b0 b25 Δ0 (Typed.both s1) at29 (Plain.t-call-plain 𝓤 H A W 𝓣 1 ps·0 r·0 (claims· .0) (claims· .1) "list_merge_records::first_bad" (known .0) E (λ pos β.
+              β) G2 (record { pos = 1; ty = Syntax.tyRef (Syntax.named 0) Syntax.imm (Memory.pointee (Finding.the-row .written)); ref = λ x. x }, tt) 5 (List._∷_ 0 List.[]) (Call.sub-id 𝓤 H A W
+              (G2 .slots)) (
                 ShrSlice.spares-sslice 𝓤 H A W (Declared′.row Finding.the-type) (Syntax.tyRef (Syntax.named 0) Syntax.imm (Memory.pointee (Finding.the-row .written))) 0,
-                Shared.reads-sslice
-                    𝓤 H A W (Declared′.row Finding.the-type) (Syntax.tyRef (Syntax.named 0) Syntax.imm (Memory.pointee (Finding.the-row .written))) 0,
+                Shared.reads-sslice 𝓤 H A W (Declared′.row Finding.the-type) (Syntax.tyRef (Syntax.named 0) Syntax.imm (Memory.pointee (Finding.the-row .written))) 0,
                 Path'.refl,
                 tt,
-              ) (Reads.room-gone 𝓤 H A (Laws''.mir))
-              (tt, tt) Path'.refl) d29
+              ) (Reads.room-gone
+              𝓤 H A (Laws''.mir)) (tt, tt) Path'.refl) d29
 
           d31 : Typed.Typed 𝓤 H A 𝓣 E G0 b26 Δ0 at31
           d31 = Typed.g-pre 𝓤 H A W 𝓣 E G0 G2 b26 Δ0 (Typed.give s0) at30 (Know.g-sl-known 𝓤 H A W (Referent.fInt Syntax.w32) E G0 3 2 (Syntax.tyRef (Syntax.named 2) Syntax.mut (Syntax.tyInt

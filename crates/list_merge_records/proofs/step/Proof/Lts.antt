@@ -3,10 +3,10 @@ use denote.Struct.Declared as Declared′
 use denote.Memory
 use Rattle.list_findings.proofs.Finding
 use Prim.Native.Nat
-use Rattle.list_merge_records.proofs.Next
-use Rattle.list_merge_records.proofs.Next.Laws
 use Rattle.list_merge_numbers.proofs.Stepped
-use Rattle.list_merge_numbers.proofs.Stepped.Laws as Laws'
+use Rattle.list_merge_numbers.proofs.Stepped.Laws
+use Rattle.list_merge_records.proofs.Next
+use Rattle.list_merge_records.proofs.Next.Laws as Laws'
 use borrow.Author.Called
 use borrow.Fn.Any
 use borrow.Fn.Call
@@ -53,23 +53,23 @@ abbrev pub r : Kinds.RK 2
 r = Value.rVal record {
   ty = Declared.row Stepped.the-type;
   one = Path'.refl;
-  val = Laws''.val Stepped.the-type Laws'.the-laws;
-  tells = Laws''.tells Stepped.the-type Laws'.the-laws;
+  val = Laws''.val Stepped.the-type Laws.the-laws;
+  tells = Laws''.tells Stepped.the-type Laws.the-laws;
   still =
-      Laws''.still Stepped.the-type Laws'.the-copy Exit.yes;
+      Laws''.still Stepped.the-type Laws.the-copy Exit.yes;
   row = Rows.whole (Declared.row Stepped.the-type);
   rd = λ x. x;
   mk = λ x. x;
 } λ M 𝓤 H A W. record {
-  copies = Laws''.copy Stepped.the-type Laws'.the-copy 𝓤 H A W;
-  lawful = Laws''.lawful Stepped.the-type Laws'.the-laws 𝓤 H A W tt;
-  makes = Laws''.makes Stepped.the-type Laws'.the-plain 𝓤 H A;
+  copies = Laws''.copy Stepped.the-type Laws.the-copy 𝓤 H A W;
+  lawful = Laws''.lawful Stepped.the-type Laws.the-laws 𝓤 H A W tt;
+  makes = Laws''.makes Stepped.the-type Laws.the-plain 𝓤 H A;
   in-mem = Local.mem-whole 𝓤 H A W (Declared.row Stepped.the-type);
   of-mem = Local.whole-mem 𝓤 H A W (Declared.row Stepped.the-type);
 }
 
 abbrev pub xs : List.List Syntax.Ty
-xs = List._∷_ (Laws.mir) (List._∷_ (Laws.mir) List.[])
+xs = List._∷_ (Laws'.mir) (List._∷_ (Laws'.mir) List.[])
 
 abbrev pub m : Nat.ℕ
 m = 0
@@ -81,17 +81,17 @@ abbrev pub r·0 : Kinds.RK 1
 r·0 = Value.rVal record {
   ty = Declared.row Next.the-type;
   one = Path'.refl;
-  val = Laws''.val Next.the-type Laws.the-laws;
-  tells = Laws''.tells Next.the-type Laws.the-laws;
+  val = Laws''.val Next.the-type Laws'.the-laws;
+  tells = Laws''.tells Next.the-type Laws'.the-laws;
   still = Laws''.still
-      Next.the-type Laws.the-copy Exit.yes;
+      Next.the-type Laws'.the-copy Exit.yes;
   row = Rows.whole (Declared.row Next.the-type);
   rd = λ x. x;
   mk = λ x. x;
 } λ M 𝓤 H A W. record {
-  copies = Laws''.copy Next.the-type Laws.the-copy 𝓤 H A W;
-  lawful = Laws''.lawful Next.the-type Laws.the-laws 𝓤 H A W tt;
-  makes = Laws''.makes Next.the-type Laws.the-plain 𝓤 H A;
+  copies = Laws''.copy Next.the-type Laws'.the-copy 𝓤 H A W;
+  lawful = Laws''.lawful Next.the-type Laws'.the-laws 𝓤 H A W tt;
+  makes = Laws''.makes Next.the-type Laws'.the-plain 𝓤 H A;
   in-mem = Local.mem-whole 𝓤 H A W (Declared.row Next.the-type);
   of-mem = Local.whole-mem 𝓤 H A W (Declared.row Next.the-type);
 }
@@ -100,32 +100,32 @@ abbrev pub ps·1 : List.List (Kinds.PK 0)
 ps·1 = List._∷_ (Value.pVal record {
   ty = Declared.row Next.the-type;
   one = Path'.refl;
-  val = Laws''.val Next.the-type Laws.the-laws;
-  tells = Laws''.tells Next.the-type Laws.the-laws;
+  val = Laws''.val Next.the-type Laws'.the-laws;
+  tells = Laws''.tells Next.the-type Laws'.the-laws;
   still =
-      Laws''.still Next.the-type Laws.the-copy Exit.yes;
+      Laws''.still Next.the-type Laws'.the-copy Exit.yes;
   row = Rows.whole (Declared.row Next.the-type);
   rd = λ x. x;
   mk = λ x. x;
 } λ M 𝓤 H A W. record {
-  copies = Laws''.copy Next.the-type Laws.the-copy 𝓤 H A W;
-  lawful = Laws''.lawful Next.the-type Laws.the-laws 𝓤 H A W tt;
-  makes = Laws''.makes Next.the-type Laws.the-plain 𝓤 H A;
+  copies = Laws''.copy Next.the-type Laws'.the-copy 𝓤 H A W;
+  lawful = Laws''.lawful Next.the-type Laws'.the-laws 𝓤 H A W tt;
+  makes = Laws''.makes Next.the-type Laws'.the-plain 𝓤 H A;
   in-mem = Local.mem-whole 𝓤 H A W (Declared.row Next.the-type);
   of-mem = Local.whole-mem 𝓤 H A W (Declared.row Next.the-type);
 }) (List._∷_ (Num.pNum Syntax.w64) (List._∷_ (Value.pVal record {
   ty = Declared.row Next.the-type;
   one = Path'.refl;
-  val = Laws''.val Next.the-type Laws.the-laws;
-  tells = Laws''.tells Next.the-type Laws.the-laws;
-  still = Laws''.still Next.the-type Laws.the-copy Exit.yes;
+  val = Laws''.val Next.the-type Laws'.the-laws;
+  tells = Laws''.tells Next.the-type Laws'.the-laws;
+  still = Laws''.still Next.the-type Laws'.the-copy Exit.yes;
   row = Rows.whole (Declared.row Next.the-type);
   rd = λ x. x;
   mk = λ x. x;
 } λ M 𝓤 H A W. record {
-  copies = Laws''.copy Next.the-type Laws.the-copy 𝓤 H A W;
-  lawful = Laws''.lawful Next.the-type Laws.the-laws 𝓤 H A W tt;
-  makes = Laws''.makes Next.the-type Laws.the-plain 𝓤 H A;
+  copies = Laws''.copy Next.the-type Laws'.the-copy 𝓤 H A W;
+  lawful = Laws''.lawful Next.the-type Laws'.the-laws 𝓤 H A W tt;
+  makes = Laws''.makes Next.the-type Laws'.the-plain 𝓤 H A;
   in-mem = Local.mem-whole 𝓤 H A W (Declared.row Next.the-type);
   of-mem = Local.whole-mem 𝓤 H A W (Declared.row Next.the-type);
 }) (List._∷_ (Num.pNum Syntax.w64) List.[])))
@@ -134,17 +134,17 @@ abbrev pub r·1 : Kinds.RK 0
 r·1 = Value.rVal record {
   ty = Declared.row Stepped.the-type;
   one = Path'.refl;
-  val = Laws''.val Stepped.the-type Laws'.the-laws;
-  tells = Laws''.tells Stepped.the-type Laws'.the-laws;
+  val = Laws''.val Stepped.the-type Laws.the-laws;
+  tells = Laws''.tells Stepped.the-type Laws.the-laws;
   still =
-      Laws''.still Stepped.the-type Laws'.the-copy Exit.yes;
+      Laws''.still Stepped.the-type Laws.the-copy Exit.yes;
   row = Rows.whole (Declared.row Stepped.the-type);
   rd = λ x. x;
   mk = λ x. x;
 } λ M 𝓤 H A W. record {
-  copies = Laws''.copy Stepped.the-type Laws'.the-copy 𝓤 H A W;
-  lawful = Laws''.lawful Stepped.the-type Laws'.the-laws 𝓤 H A W tt;
-  makes = Laws''.makes Stepped.the-type Laws'.the-plain 𝓤 H A;
+  copies = Laws''.copy Stepped.the-type Laws.the-copy 𝓤 H A W;
+  lawful = Laws''.lawful Stepped.the-type Laws.the-laws 𝓤 H A W tt;
+  makes = Laws''.makes Stepped.the-type Laws.the-plain 𝓤 H A;
   in-mem = Local.mem-whole 𝓤 H A W (Declared.row Stepped.the-type);
   of-mem = Local.whole-mem 𝓤 H A W (Declared.row Stepped.the-type);
 }
@@ -160,8 +160,8 @@ abbrev b1 : Syntax.Body
 b1 = Syntax.call "list_merge_records::next_at" (List._∷_ (Syntax.copy (Syntax.place 3 List.[])) (List._∷_ (Syntax.copy (Syntax.place 4 List.[])) List.[])) (Syntax.place 6 List.[])
 
 abbrev b2 : Syntax.Body
-b2 = Syntax.call "list_merge_records::decide" (List._∷_ (Syntax.copy (Syntax.place 5 List.[])) (List._∷_ (Syntax.copy (Syntax.place 2 List.[])) (List._∷_ (Syntax.copy (Syntax.place 6 List.[])) (List._∷_
-    (Syntax.copy (Syntax.place 4 List.[])) List.[])))) (Syntax.place 0 List.[])
+b2 = Syntax.call "list_merge_records::decide" (List._∷_ (Syntax.copy (Syntax.place 5 List.[])) (List._∷_ (Syntax.copy (Syntax.place 2 List.[])) (List._∷_ (Syntax.copy (Syntax.place 6 List.[]))
+    (List._∷_ (Syntax.copy (Syntax.place 4 List.[])) List.[])))) (Syntax.place 0 List.[])
 
 abbrev b3 : Syntax.Body
 b3 = Syntax.return
@@ -182,7 +182,7 @@ abbrev pub Claims : Type 1
 Claims = Kinds.In 1 ps·0 × Kinds.Out 1 ps·0 r·0 × Kinds.In 0 ps·1 × Kinds.Out 0 ps·1 r·1
 
 abbrev e0 : Row.Entry
-e0 = (0, Rows.any-gone (Laws'.mir))
+e0 = (0, Rows.any-gone (Laws.mir))
 
 abbrev e1 : Row.Entry
 e1 = (1, Rows.sslice (Declared′.row Finding.the-type) (Syntax.tyRef (Syntax.named 0) Syntax.imm (Memory.pointee (Finding.the-row .written))) 0)
@@ -197,10 +197,10 @@ abbrev e4 : Row.Entry
 e4 = (4, Rows.sc-here (Row.sInt Syntax.w64))
 
 abbrev e5 : Row.Entry
-e5 = (5, Rows.any-gone (Laws.mir))
+e5 = (5, Rows.any-gone (Laws'.mir))
 
 abbrev e6 : Row.Entry
-e6 = (6, Rows.any-gone (Laws.mir))
+e6 = (6, Rows.any-gone (Laws'.mir))
 
 abbrev pub t0 : List.List Row.Entry
 t0 = List._∷_ e0 (List._∷_ e1 (List._∷_ e2 (List._∷_ e3 (List._∷_ e4 (List._∷_ e5 (List._∷_ e6 (List.[])))))))
@@ -283,7 +283,7 @@ module _ (claims· : Claims) where
   )
       5
       (List._∷_ 0 List.[])
-      (Laws.mir)
+      (Laws'.mir)
 
   abbrev s1 : Typed.Both T2 T3
   s1 = Call.callB ps·0 r·0 (claims· .0) (claims· .1) T2 (
@@ -296,7 +296,7 @@ module _ (claims· : Claims) where
   )
       6
       (List._∷_ 1 List.[])
-      (Laws.mir)
+      (Laws'.mir)
 
   abbrev s2 : Typed.Both T3 T4
   s2 = Call.callB ps·1 r·1 (claims· .2) (claims· .3) T3 (
@@ -315,13 +315,13 @@ module _ (claims· : Claims) where
   )
       0
       List.[]
-      (Laws'.mir)
+      (Laws.mir)
 
   abbrev s3 : Typed.Mo T4 → Typed.Mo T5
-  s3 = Scalar.n-room T4 5 (Laws.mir)
+  s3 = Scalar.n-room T4 5 (Laws'.mir)
 
   abbrev s4 : Typed.Mo T5 → Typed.Mo T6
-  s4 = Scalar.n-room T5 6 (Laws.mir)
+  s4 = Scalar.n-room T5 6 (Laws'.mir)
 
   abbrev s5 : Typed.Mo T6 → Typed.Mo T7
   s5 = Scalar.n-room T6 2 (Syntax.tyInt Syntax.w64)
@@ -334,8 +334,8 @@ module _ (claims· : Claims) where
     module _ (M : Type 1) where
       abbrev pub Closed : Type 2
       Closed = (𝓤 : URA.URA M) (H : Wp.Heap 𝓤) (A : Atoms.Atoms 𝓤) (W : Kit.Given 𝓤 H A) (𝓣 : Wp.Tables 𝓤 H) (known0 : Plain.Known 𝓤 H A W 𝓣 1 ps·0 r·0 (claims· .0) (claims· .1)
-          "list_merge_records::next_at") (known1 : Plain.Known 𝓤 H A W 𝓣 0 ps·1 r·1 (claims· .2) (claims· .3) "list_merge_records::decide") → Statement.Triple 𝓤 (Wp.WpFn 𝓤 H (𝓣 .C) (𝓣 .Λ) (Function.fnOf 2 ps
-          r xs m hs body)) (Function.plainOf 𝓤 H A 2 ps r Pre· Post·)
+          "list_merge_records::next_at") (known1 : Plain.Known 𝓤 H A W 𝓣 0 ps·1 r·1 (claims· .2) (claims· .3) "list_merge_records::decide") → Statement.Triple 𝓤 (Wp.WpFn 𝓤 H (𝓣 .C) (𝓣 .Λ)
+          (Function.fnOf 2 ps r xs m hs body)) (Function.plainOf 𝓤 H A 2 ps r Pre· Post·)
 
     module _ where
       abbrev at0 : Typed.TF T8 O0
@@ -444,62 +444,59 @@ module _ (claims· : Claims) where
           d2 = Typed.g-pre 𝓤 H A W 𝓣 E G6 G7 b3 Δ0 (Typed.pass T6 T7 s5) at1 (Scalar.g-room 𝓤 H A W E G6 2 (Syntax.tyInt Syntax.w64) (Scalar.room-sc 𝓤 H A W (Row.sInt Syntax.w64))) d1
 
           d3 : Typed.Typed 𝓤 H A 𝓣 E G5 b3 Δ0 at3
-          d3 = Typed.g-pre 𝓤 H A W 𝓣 E G5 G6 b3 Δ0 (Typed.pass T5 T6 s4) at2 (Scalar.g-room 𝓤 H A W E G5 6 (Laws.mir) (Local.room-whole 𝓤 H A W (Declared.row Next.the-type) (Laws.mir) Path'.refl)) d2
+          d3 = Typed.g-pre 𝓤 H A W 𝓣 E G5 G6 b3 Δ0 (Typed.pass T5 T6 s4) at2 (Scalar.g-room 𝓤 H A W E G5 6 (Laws'.mir) (Local.room-whole 𝓤 H A W (Declared.row Next.the-type) (Laws'.mir) Path'.refl))
+              d2
 
           d4 : Typed.Typed 𝓤 H A 𝓣 E G4 b3 Δ0 at4
-          d4 = Typed.g-pre 𝓤 H A W 𝓣 E G4 G5 b3 Δ0 (Typed.pass T4 T5 s3) at3 (Scalar.g-room 𝓤 H A W E G4 5 (Laws.mir) (Local.room-whole 𝓤 H A W (Declared.row Next.the-type) (Laws.mir) Path'.refl)) d3
+          d4 = Typed.g-pre 𝓤 H A W 𝓣 E G4 G5 b3 Δ0 (Typed.pass T4 T5 s3) at3 (Scalar.g-room 𝓤 H A W E G4 5 (Laws'.mir) (Local.room-whole 𝓤 H A W (Declared.row Next.the-type) (Laws'.mir) Path'.refl))
+              d3
 
           d5 : Typed.Typed 𝓤 H A 𝓣 E G3 b4 Δ0 at5
-          d5 = Typed.s-seq 𝓤 H A W 𝓣 E G3 G4 b2 b3 Δ0 (Typed.both s2) at4 (Plain.t-call-plain 𝓤 H A W 𝓣 0 ps·1 r·1 (claims· .2) (claims· .3) "list_merge_records::decide" (known .1) E (λ pos β. β) G3 (
-            record { pos = 5; st = List.[]; d = 0; at = λ x. x },
-            (Num.vAt 2 λ x. x, (record { pos = 6; st = List.[]; d = 0; at = λ x. x }, (Num.vAt 4 λ x. x, tt))),
-          ) 0 List.[] (Call.sub-id 𝓤 H
-              A W (G3 .slots)) (
+          d5 = Typed.s-seq 𝓤 H A W 𝓣 E G3 G4 b2 b3 Δ0 (Typed.both s2) at4 (Plain.t-call-plain 𝓤 H A W 𝓣 0 ps·1 r·1 (claims· .2) (claims· .3) "list_merge_records::decide" (known .1) E (λ pos β. β) G3
+              (record { pos = 5; st = List.[]; d = 0; at = λ x. x }, (Num.vAt 2 λ x. x, (record { pos = 6; st = List.[]; d = 0; at = λ x. x }, (Num.vAt 4 λ x. x, tt)))) 0 List.[] (Call.sub-id 𝓤
+              H A W (G3 .slots)) (
                 (
-                  Yields.yields-copy 𝓤 H A W (λ ρ. Unit) (Declared.row Next.the-type) Path'.refl (Copies.cEnum Next.the-type Laws.the-laws Laws.the-copy .copy 𝓤 H A W) (Rows.whole
-                      (Declared.row Next.the-type)) (λ x. x) (λ x. x) (λ ρ told. Local.mem-whole 𝓤 H A W (Declared.row Next.the-type) ρ) λ ρ told. Local.whole-mem 𝓤 H A W (Declared.row Next.the-type) ρ,
+                  Yields.yields-copy 𝓤 H A W (λ ρ. Unit) (Declared.row Next.the-type) Path'.refl (Copies.cEnum Next.the-type Laws'.the-laws Laws'.the-copy .copy 𝓤 H A W)
+                      (Rows.whole (Declared.row Next.the-type)) (λ x. x) (λ x. x) (λ ρ told. Local.mem-whole 𝓤 H A W (Declared.row Next.the-type) ρ) λ ρ told. Local.whole-mem 𝓤 H A W (Declared.row
+                      Next.the-type) ρ,
                   Path'.refl,
                 ),
                 (
                   (Scalar.reads-sc 𝓤 H A W (Row.sInt Syntax.w64), Path'.refl),
                   (
                     (
-                      Yields.yields-copy 𝓤 H A W (λ ρ. Unit) (Declared.row Next.the-type) Path'.refl (Copies.cEnum
-                          Next.the-type Laws.the-laws Laws.the-copy .copy 𝓤 H A W) (Rows.whole (Declared.row Next.the-type)) (λ x. x) (λ x. x) (λ ρ told. Local.mem-whole 𝓤 H A W (Declared.row Next.the-type) ρ) λ
-                          ρ told. Local.whole-mem 𝓤 H A W (Declared.row Next.the-type) ρ,
+                      Yields.yields-copy 𝓤 H A W (λ ρ. Unit) (Declared.row Next.the-type) Path'.refl
+                          (Copies.cEnum Next.the-type Laws'.the-laws Laws'.the-copy .copy 𝓤 H A W) (Rows.whole (Declared.row Next.the-type)) (λ x. x) (λ x. x) (λ ρ told. Local.mem-whole 𝓤 H A W (Declared.row
+                          Next.the-type) ρ) λ ρ told. Local.whole-mem 𝓤 H A W (Declared.row Next.the-type) ρ,
                       Path'.refl,
                     ),
                     ((Scalar.reads-sc 𝓤 H A W (Row.sInt Syntax.w64), Path'.refl), tt),
                   ),
                 ),
-              ) (Reads.room-gone 𝓤 H A
-              (Laws'.mir)) tt Path'.refl) d4
+              )
+              (Reads.room-gone 𝓤 H A (Laws.mir)) tt Path'.refl) d4
 
           d6 : Typed.Typed 𝓤 H A 𝓣 E G2 b5 Δ0 at6
-          d6 = Typed.s-seq 𝓤 H A W 𝓣 E G2 G3 b1 b4 Δ0 (Typed.both s1) at5 (Plain.t-call-plain 𝓤 H A W 𝓣 1 ps·0 r·0 (claims· .0) (claims· .1) "list_merge_records::next_at" (known .0) E (λ pos β. β) G2 (
-            record { pos = 3; ty = Syntax.tyRef (Syntax.named 1) Syntax.imm (Memory.pointee (Finding.the-row .written)); ref = λ x. x },
-            (Num.vAt 4 λ x. x, tt),
-          ) 6 (List._∷_ 1 List.[])
+          d6 = Typed.s-seq 𝓤 H A W 𝓣 E G2 G3 b1 b4 Δ0 (Typed.both s1) at5 (Plain.t-call-plain 𝓤 H A W 𝓣 1 ps·0 r·0 (claims· .0) (claims· .1) "list_merge_records::next_at" (known .0) E (λ pos β. β) G2
+              (record { pos = 3; ty = Syntax.tyRef (Syntax.named 1) Syntax.imm (Memory.pointee (Finding.the-row .written)); ref = λ x. x }, (Num.vAt 4 λ x. x, tt)) 6 (List._∷_ 1 List.[])
               (Call.sub-id 𝓤 H A W (G2 .slots)) (
                 ShrSlice.spares-sslice 𝓤 H A W (Declared′.row Finding.the-type) (Syntax.tyRef (Syntax.named 1) Syntax.imm (Memory.pointee (Finding.the-row
                     .written))) 1,
                 Shared.reads-sslice 𝓤 H A W (Declared′.row Finding.the-type) (Syntax.tyRef (Syntax.named 1) Syntax.imm (Memory.pointee (Finding.the-row .written))) 1,
                 Path'.refl,
                 ((Scalar.reads-sc 𝓤 H A W (Row.sInt Syntax.w64), Path'.refl), tt),
-              ) (Reads.room-gone 𝓤 H A (Laws.mir)) (tt, tt) Path'.refl) d5
+              ) (Reads.room-gone 𝓤 H A (Laws'.mir)) (tt, tt) Path'.refl) d5
 
           d7 : Typed.Typed 𝓤 H A 𝓣 E G0 b6 Δ0 at7
-          d7 = Typed.s-seq 𝓤 H A W 𝓣 E G0 G2 b0 b5 Δ0 (Typed.both s0) at6 (Plain.t-call-plain 𝓤 H A W 𝓣 1 ps·0 r·0 (claims· .0) (claims· .1) "list_merge_records::next_at" (known .0) E (λ pos β. β) G0 (
-            record { pos = 1; ty = Syntax.tyRef (Syntax.named 0) Syntax.imm (Memory.pointee (Finding.the-row .written)); ref = λ x. x },
-            (Num.vAt 2 λ x. x, tt),
-          ) 5 (List._∷_ 0 List.[])
+          d7 = Typed.s-seq 𝓤 H A W 𝓣 E G0 G2 b0 b5 Δ0 (Typed.both s0) at6 (Plain.t-call-plain 𝓤 H A W 𝓣 1 ps·0 r·0 (claims· .0) (claims· .1) "list_merge_records::next_at" (known .0) E (λ pos β. β) G0
+              (record { pos = 1; ty = Syntax.tyRef (Syntax.named 0) Syntax.imm (Memory.pointee (Finding.the-row .written)); ref = λ x. x }, (Num.vAt 2 λ x. x, tt)) 5 (List._∷_ 0 List.[])
               (Call.sub-id 𝓤 H A W (G0 .slots)) (
                 ShrSlice.spares-sslice 𝓤 H A W (Declared′.row Finding.the-type) (Syntax.tyRef (Syntax.named 0) Syntax.imm (Memory.pointee (Finding.the-row
                     .written))) 0,
                 Shared.reads-sslice 𝓤 H A W (Declared′.row Finding.the-type) (Syntax.tyRef (Syntax.named 0) Syntax.imm (Memory.pointee (Finding.the-row .written))) 0,
                 Path'.refl,
                 ((Scalar.reads-sc 𝓤 H A W (Row.sInt Syntax.w64), Path'.refl), tt),
-              ) (Reads.room-gone 𝓤 H A (Laws.mir)) (tt, tt) Path'.refl) d6
+              ) (Reads.room-gone 𝓤 H A (Laws'.mir)) (tt, tt) Path'.refl) d6
 
           pub typed : Typed.Typed 𝓤 H A 𝓣 E (Function.Γin 2 ps r xs m κs qs) b6 (Function.Δret 2 ps r xs m κs qs) Φ
           typed = d7

@@ -87,5 +87,5 @@ module _ {M : Type 1} where
         𝓖 = 𝓖;
         𝓡 =
             𝓡;
-      } Code.env Symbol'.name Symbol'.routine Code.calls-merge-findings·next-at (Met'.met 𝓤 H 𝓜 𝓖 𝓡)) (Reads.known record { M = M; 𝓤 = 𝓤; H = H; 𝓜 = 𝓜; 𝓖 = 𝓖; 𝓡 = 𝓡 } Code.env Symbol.name
-      Symbol.routine Code.calls-merge-findings·decide (Met.met 𝓤 H 𝓜 𝓖 𝓡))
+      } Code.env Symbol'.name Symbol'.routine Code.calls-list-merge-records·next-at (Met'.met 𝓤 H 𝓜 𝓖 𝓡)) (Reads.known record { M = M; 𝓤 = 𝓤; H = H; 𝓜 = 𝓜; 𝓖 = 𝓖; 𝓡 = 𝓡 } Code.env Symbol.name
+      Symbol.routine Code.calls-list-merge-records·decide (Met.met 𝓤 H 𝓜 𝓖 𝓡))

@@ -122,8 +122,8 @@ abbrev b2 : Syntax.Body
 b2 = Syntax.assign (Syntax.place 5 List.[]) (Syntax.rvOpd (Syntax.int Syntax.w64 0))
 
 abbrev b3 : Syntax.Body
-b3 = Syntax.call "list_merge_records::step" (List._∷_ (Syntax.copy (Syntax.place 1 List.[])) (List._∷_ (Syntax.copy (Syntax.place 3 List.[])) (List._∷_ (Syntax.copy (Syntax.place 2 List.[])) (List._∷_
-    (Syntax.copy (Syntax.place 4 List.[])) List.[])))) (Syntax.place 11 List.[])
+b3 = Syntax.call "list_merge_records::step" (List._∷_ (Syntax.copy (Syntax.place 1 List.[])) (List._∷_ (Syntax.copy (Syntax.place 3 List.[])) (List._∷_ (Syntax.copy (Syntax.place 2 List.[]))
+    (List._∷_ (Syntax.copy (Syntax.place 4 List.[])) List.[])))) (Syntax.place 11 List.[])
 
 abbrev b4 : Syntax.Body
 b4 = Syntax.assign (Syntax.place 0 List.[]) (Syntax.aggregate (List._∷_ (Syntax.int Syntax.w8 0) (List._∷_ (Syntax.copy (Syntax.place 5 List.[])) List.[])))
@@ -1368,8 +1368,7 @@ module _ (claims· : Claims) where
 
           d37 : Typed.Typed 𝓤 H A 𝓣 E G4 b29 Δ3 at37
           d37 = Typed.s-seq 𝓤 H A W 𝓣 E G4 G5 b3 b28 Δ3 (Typed.both s3) at36 (Plain.t-call-plain 𝓤 H A W 𝓣 2 ps·0 r·0 (claims· .0) (claims· .1) "list_merge_records::step" known E (λ pos β. β) G4 (
-            record
-                { pos = 1; ty = Syntax.tyRef (Syntax.named 0) Syntax.imm (Memory.pointee (Finding.the-row .written)); ref = λ x. x },
+            record { pos = 1; ty = Syntax.tyRef (Syntax.named 0) Syntax.imm (Memory.pointee (Finding.the-row .written)); ref = λ x. x },
             (
               Num.vAt 3 λ x. x,
               (

@@ -136,8 +136,8 @@ abbrev b2 : Syntax.Body
 b2 = Syntax.assign (Syntax.place 6 List.[]) (Syntax.rvOpd (Syntax.int Syntax.w64 0))
 
 abbrev b3 : Syntax.Body
-b3 = Syntax.call "list_merge_records::step" (List._∷_ (Syntax.copy (Syntax.place 1 List.[])) (List._∷_ (Syntax.copy (Syntax.place 4 List.[])) (List._∷_ (Syntax.copy (Syntax.place 2 List.[])) (List._∷_
-    (Syntax.copy (Syntax.place 5 List.[])) List.[])))) (Syntax.place 12 List.[])
+b3 = Syntax.call "list_merge_records::step" (List._∷_ (Syntax.copy (Syntax.place 1 List.[])) (List._∷_ (Syntax.copy (Syntax.place 4 List.[])) (List._∷_ (Syntax.copy (Syntax.place 2 List.[]))
+    (List._∷_ (Syntax.copy (Syntax.place 5 List.[])) List.[])))) (Syntax.place 12 List.[])
 
 abbrev b4 : Syntax.Body
 b4 = Syntax.assign (Syntax.place 0 List.[]) (Syntax.rvOpd Syntax.opdUnit)
@@ -195,8 +195,8 @@ b21 = Syntax.assign (Syntax.place 14 List.[]) (Syntax.aggregate (List._∷_ (Syn
     List.[])))
 
 abbrev b22 : Syntax.Body
-b22 = Syntax.call "list_writer::append_at" (List._∷_ (Syntax.copy (Syntax.place 14 List.[])) (List._∷_ (Syntax.copy (Syntax.place 6 List.[])) (List._∷_ (Syntax.copy (Syntax.place 9 List.[])) List.[])))
-    (Syntax.place 6 List.[])
+b22 = Syntax.call "list_writer::append_at" (List._∷_ (Syntax.copy (Syntax.place 14 List.[])) (List._∷_ (Syntax.copy (Syntax.place 6 List.[])) (List._∷_ (Syntax.copy (Syntax.place 9 List.[]))
+    List.[]))) (Syntax.place 6 List.[])
 
 abbrev b23 : Syntax.Body
 b23 = Syntax.assign (Syntax.place 4 List.[]) (Syntax.rvOpd (Syntax.copy (Syntax.place 10 List.[])))
@@ -802,8 +802,8 @@ module _ (claims· : Claims) where
     module _ (M : Type 1) where
       abbrev pub Closed : Type 2
       Closed = (𝓤 : URA.URA M) (H : Wp.Heap 𝓤) (A : Atoms.Atoms 𝓤) (W : Kit.Given 𝓤 H A) (𝓣 : Wp.Tables 𝓤 H) (known0 : Plain.Known 𝓤 H A W 𝓣 2 ps·0 r·0 (claims· .0) (claims· .1)
-          "list_merge_records::step") (known1 : Plain.Known 𝓤 H A W 𝓣 1 ps·1 r·1 (claims· .2) (claims· .3) "list_writer::append_at") → Statement.Triple 𝓤 (Wp.WpFn 𝓤 H (𝓣 .C) (𝓣 .Λ) (Function.fnOf 3 ps r xs m
-          hs body)) (Function.plainOf 𝓤 H A 3 ps r Pre· Post·)
+          "list_merge_records::step") (known1 : Plain.Known 𝓤 H A W 𝓣 1 ps·1 r·1 (claims· .2) (claims· .3) "list_writer::append_at") → Statement.Triple 𝓤 (Wp.WpFn 𝓤 H (𝓣 .C) (𝓣 .Λ) (Function.fnOf 3
+          ps r xs m hs body)) (Function.plainOf 𝓤 H A 3 ps r Pre· Post·)
 
     module _ (Inv·0 : InvT-loop) (μ·0 : MeasureT-loop) where
       abbrev at0 : Typed.TF T12 O3
@@ -1669,33 +1669,34 @@ module _ (claims· : Claims) where
               Path'.refl)) d28
 
           d30 : Typed.Typed 𝓤 H A 𝓣 E G40 b26 Δ3 at30
-          d30 = Typed.s-seq 𝓤 H A W 𝓣 E G40 G41 b22 b25 Δ3 (Typed.both s39) at29 (Plain.t-call-plain 𝓤 H A W 𝓣 1 ps·1 r·1 (claims· .2) (claims· .3) "list_writer::append_at" (known .1) E (λ pos β. β) G40 (
-            record { pos = 14; ty = Syntax.tyRef Syntax.erased Syntax.mut (Syntax.tyInt Syntax.w32); ref = λ x. x },
-            (
-              Num.vAt 6 λ x. x,
-              (
-                record { pos = 9; st = List.[]; d = 0; at = λ x. x },
-                tt,
-              ),
-            ),
-          ) 6 (List._∷_ 3 List.[]) (Call.sub-id 𝓤 H A W (G40 .slots)) (
-            Reads.as-is 𝓤 H A (Mut.mslice (Referent.rtF (Referent.fInt Syntax.w32)) (Syntax.tyRef Syntax.erased Syntax.mut
-                (Syntax.tyInt Syntax.w32)) 3),
-            Mut.reads-mslice 𝓤 H A W (Referent.rtF (Referent.fInt Syntax.w32)) (Syntax.tyRef Syntax.erased Syntax.mut (Syntax.tyInt Syntax.w32)) 3,
-            Path'.refl,
-            (
-              (Scalar.reads-sc 𝓤 H A W (Row.sInt Syntax.w64), Path'.refl),
-              (
+          d30 = Typed.s-seq 𝓤 H A W 𝓣 E G40 G41 b22 b25 Δ3 (Typed.both s39) at29 (Plain.t-call-plain 𝓤 H A W 𝓣 1 ps·1 r·1 (claims· .2) (claims· .3) "list_writer::append_at" (known .1) E (λ pos β. β)
+              G40 (
+                record { pos = 14; ty = Syntax.tyRef Syntax.erased Syntax.mut (Syntax.tyInt Syntax.w32); ref = λ x. x },
                 (
-                  Yields.yields-copy 𝓤 H A W (λ ρ. Unit) (Declared'.row Finding.the-type) Path'.refl (Copies.cStruct Finding.the-type
-                      Laws.the-laws Laws.the-copy .copy 𝓤 H A W) (Rows.whole (Declared'.row Finding.the-type)) (λ x. x) (λ x. x) (λ ρ told. Local.mem-whole 𝓤 H A W (Declared'.row Finding.the-type) ρ) λ ρ
-                      told. Local.whole-mem 𝓤 H A W (Declared'.row Finding.the-type) ρ,
-                  Path'.refl,
+                  Num.vAt 6 λ x. x,
+                  (
+                    record { pos = 9; st = List.[]; d = 0; at = λ x. x },
+                    tt,
+                  ),
                 ),
-                tt,
-              ),
-            ),
-          ) (Scalar.room-sc 𝓤 H A W (Row.sInt Syntax.w64)) (tt, tt) Path'.refl) d29
+              ) 6 (List._∷_ 3 List.[]) (Call.sub-id 𝓤 H A W (G40 .slots)) (
+                Reads.as-is 𝓤 H A (Mut.mslice (Referent.rtF (Referent.fInt Syntax.w32)) (Syntax.tyRef Syntax.erased Syntax.mut
+                    (Syntax.tyInt Syntax.w32)) 3),
+                Mut.reads-mslice 𝓤 H A W (Referent.rtF (Referent.fInt Syntax.w32)) (Syntax.tyRef Syntax.erased Syntax.mut (Syntax.tyInt Syntax.w32)) 3,
+                Path'.refl,
+                (
+                  (Scalar.reads-sc 𝓤 H A W (Row.sInt Syntax.w64), Path'.refl),
+                  (
+                    (
+                      Yields.yields-copy 𝓤 H A W (λ ρ. Unit) (Declared'.row Finding.the-type) Path'.refl (Copies.cStruct Finding.the-type
+                          Laws.the-laws Laws.the-copy .copy 𝓤 H A W) (Rows.whole (Declared'.row Finding.the-type)) (λ x. x) (λ x. x) (λ ρ told. Local.mem-whole 𝓤 H A W (Declared'.row Finding.the-type) ρ) λ ρ
+                          told. Local.whole-mem 𝓤 H A W (Declared'.row Finding.the-type) ρ,
+                      Path'.refl,
+                    ),
+                    tt,
+                  ),
+                ),
+              ) (Scalar.room-sc 𝓤 H A W (Row.sInt Syntax.w64)) (tt, tt) Path'.refl) d29
 
           d31 : Typed.Typed 𝓤 H A 𝓣 E G39 b27 Δ3 at31
           d31 = Typed.s-seq 𝓤 H A W 𝓣 E G39 G40 b21 b26 Δ3 (Typed.ask s38) at30 (Relend.t-sl-aggregate 𝓤 H A W E (Referent.rtF (Referent.fInt Syntax.w32)) 𝓣 (Relend.asMut (Referent.rtF (Referent.fInt

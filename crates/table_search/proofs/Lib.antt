@@ -1,0 +1,4 @@
+pub mod Keys
+pub mod Asking
+pub mod Searching
+pub mod Runs

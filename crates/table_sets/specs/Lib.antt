@@ -1,0 +1,3 @@
+pub mod SetKeys
+pub mod Unique
+pub mod Examples
