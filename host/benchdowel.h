@@ -1,6 +1,6 @@
 /* Benchdowel for programs in C: the check, the merge and the value reader.
  *
- * `rt staticlib exports` proves them and writes the archive, target/staticlib/libexports.a, for x86-64 Linux. It needs nothing but
+ * `rt staticlib program_exports` proves them and writes the archive, target/staticlib/libprogram_exports.a, for x86-64 Linux. It needs nothing but
  * the C library.
  *
  * Every function answers for all bytes and numbers. What it cannot see the caller owes it:

@@ -4,7 +4,7 @@
 #   host/run.sh [CASES [SECONDS [ARCHIVE [VECTORS]]]]
 #
 # CASES    made-up cases to compare (1000000), for at most SECONDS (1800)
-# ARCHIVE  the product's archive: made by `rt staticlib exports` if none is named. The word `standin` puts the reference in its
+# ARCHIVE  the product's archive: made by `rt staticlib program_exports` if none is named. The word `standin` puts the reference in its
 #          place, which tries the harness alone
 # VECTORS  the folder of the vectors (crates/vectors/data)
 #
@@ -22,9 +22,9 @@ cases=${1:-1000000}
 seconds=${2:-1800}
 archive=${3:-}
 if [ -z "$archive" ]; then
-    archive=$project/target/staticlib/libexports.a
+    archive=$project/target/staticlib/libprogram_exports.a
     echo "making $archive"
-    (cd "$project" && rt staticlib exports) >/dev/null || fail "rt staticlib exports did not make the archive"
+    (cd "$project" && rt staticlib program_exports) >/dev/null || fail "rt staticlib program_exports did not make the archive"
 fi
 [ "$archive" = standin ] || [ -f "$archive" ] || fail "there is no archive $archive"
 vectors=$(folder "${4:-$project/crates/vectors/data}") || fail "there is no folder $4"
