@@ -6,7 +6,7 @@
 # CASES    made-up cases to compare (1000000), for at most SECONDS (1800)
 # ARCHIVE  the product's archive: made by `rt staticlib program_exports` if none is named. The word `standin` puts the reference in its
 #          place, which tries the harness alone
-# VECTORS  the folder of the vectors (crates/vectors/data)
+# VECTORS  the folder of the vectors (crates/program_vectors/data)
 #
 # What is missing is installed from Debian's packages. Everything is built outside the repository, in
 # ${TMPDIR:-/tmp}/benchdowel-host; the files of differing cases are put into the folder `differ` there.
@@ -27,7 +27,7 @@ if [ -z "$archive" ]; then
     (cd "$project" && rt staticlib program_exports) >/dev/null || fail "rt staticlib program_exports did not make the archive"
 fi
 [ "$archive" = standin ] || [ -f "$archive" ] || fail "there is no archive $archive"
-vectors=$(folder "${4:-$project/crates/vectors/data}") || fail "there is no folder $4"
+vectors=$(folder "${4:-$project/crates/program_vectors/data}") || fail "there is no folder $4"
 [ -f "$vectors/expected.txt" ] || fail "there are no vectors in $vectors"
 build=${TMPDIR:-/tmp}/benchdowel-host
 mkdir -p "$build"
