@@ -8,8 +8,8 @@ use Rattle.list_findings.specs.declared.Merged.{Merged}
 use Rattle.list_findings.specs.declared.Merged.the-variants.{Findings as Kept, Refused as NotMerged}
 use Rattle.list_findings.specs.Findings.{width}
 use Rattle.list_findings.specs.Merge.{Merging, mergeOf}
-use Rattle.judge_document.specs.declared.Answer.{Answer}
-use Rattle.judge_document.specs.declared.Answer.the-variants.{Findings, Refused}
+use Rattle.judge_check.specs.declared.Answer.{Answer}
+use Rattle.judge_check.specs.declared.Answer.the-variants.{Findings, Refused}
 use Rattle.judge_check.specs.Check.{Outcome as Checked, checkOf}
 
 -- the merge's answer, as the check's
@@ -26,7 +26,7 @@ pub record Both : Type 0 where
   pub out : List ℕ
 
 -- the fronts of two lists, of so many records each, merged
-unfoldable pub merging : List ℕ → ℕ → List ℕ → ℕ → List ℕ → Outcome
+unfoldable pub merging : List ℕ → ℕ → List ℕ → ℕ → List ℕ → Merging
 merging first n second m out = mergeOf (take (n * width) first) (take (m * width) second) out
 
 -- what the check under the second file answers and leaves, and then the merge

@@ -21,13 +21,12 @@ use Rattle.xml_elements.specs.Elements.{elementsOf, answerOf, tableAfter, Eleme
 use Rattle.xml_nesting.proofs.Read.{Rows, rows-read}
 use Rattle.judge_answers.specs.declared.Places.{Places}
 use Rattle.judge_answers.specs.Answers.{tablesAt}
-use Rattle.judge_findings.specs.Listed.{findingsOf}
-use Rattle.judge_document.specs.declared.Answer.{Answer}
-use Rattle.judge_document.specs.declared.Answer.the-variants.{Findings, Refused}
-use Rattle.judge_document.specs.Drafted.{draftOf}
+use Rattle.judge_marks.specs.Listed.{findingsOf}
+use Rattle.judge_check.specs.declared.Answer.{Answer}
+use Rattle.judge_check.specs.declared.Answer.the-variants.{Findings, Refused}
+use Rattle.judge_check.specs.Drafted.{draftOf}
 use Rattle.judge_check.specs.Long.{longValue}
-use Rattle.judge_document.specs.Room.{answerIn, listIn}
-use Rattle.judge_check.specs.Check.{Outcome, cleared, judged, underFile, checkOf, Leaves}
+use Rattle.judge_check.specs.Check.{Outcome, cleared, answerIn, listIn, judged, underFile, checkOf, Leaves}
 use Rattle.judge_check.proofs.Values.{none-long}
 
 -- ---- what a reading answered

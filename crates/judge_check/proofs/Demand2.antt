@@ -22,16 +22,14 @@ use Rattle.xml_elements.specs.Elements.{elementsOf}
 use Rattle.xml_nesting.proofs.Read.{Rows, rows-read}
 use Rattle.judge_draft.specs.Drafts.{Draft, draft, count}
 use Rattle.judge_header.specs.Header.{headerOf}
-use Rattle.judge_findings.specs.Listed.{finding, broken, findingsOf}
-use Rattle.judge_findings.specs.Holding.{Judged, Holds, InDocumentOrder}
-use Rattle.judge_findings.proofs.Listed.{held-exactly, listed-holds, empty-unbroken, unbroken-empty}
-use Rattle.judge_document.specs.declared.Answer.{Answer}
-use Rattle.judge_document.specs.declared.Answer.the-variants.{Findings, Refused}
-use Rattle.judge_notes.proofs.Noted.{notes-length, note-first, note-after}
-use Rattle.judge_document.specs.Drafted.{draftAs, typeIn, draftOf}
+use Rattle.judge_marks.specs.Listed.{finding, broken, findingsOf}
+use Rattle.judge_marks.specs.Holding.{Judged, Holds, InDocumentOrder}
+use Rattle.judge_marks.proofs.Listed.{held-exactly, listed-holds, empty-unbroken, unbroken-empty}
+use Rattle.judge_check.specs.declared.Answer.{Answer}
+use Rattle.judge_check.specs.declared.Answer.the-variants.{Findings, Refused}
+use Rattle.judge_check.specs.Drafted.{draftAs, draftOf}
 use Rattle.judge_check.specs.Long.{longValue}
-use Rattle.judge_document.specs.Room.{answerIn, listIn}
-use Rattle.judge_check.specs.Check.{Outcome, cleared, unlessLong, refuse, judged, underFile, checkOf, Leaves}
+use Rattle.judge_check.specs.Check.{Outcome, cleared, unlessLong, refuse, answerIn, listIn, judged, underFile, checkOf, Leaves}
 use Rattle.judge_check.specs.Accepted.{foundIn, Accepted}
 use Rattle.judge_check.proofs.Values.{none-long}
 
@@ -101,14 +99,8 @@ module _ (s : List ℕ) (k : ℕ) (rows : List ℕ) (e : elementsOf s ≡ elemen
   unfolding draftOf draftAs draft
   in-order =
       record {
-        rises = λ i j h g.
-            let w : j < length rows / 4 = omega (arith, notes-length s rows (typeIn s rows)) in
-            rw (note-first s rows (typeIn s rows) i (omega arith), note-first s rows (typeIn s rows) j w)
-            (its .ordered .rises i j h (omega (arith, its .wide)));
-        ends = λ j h.
-            let w : j < length rows / 4 = omega (arith, notes-length s rows (typeIn s rows)) in
-            rw (note-first s rows (typeIn s rows) j w, note-after s rows (typeIn s rows) j w)
-            (its .ordered .ends j (omega (arith, its .wide)));
+        rises = λ i j h g. its .ordered .rises i j h (omega (arith, its .wide));
+        ends = λ j h. its .ordered .ends j (omega (arith, its .wide));
       }
 
   module _ (file : List ℕ) where

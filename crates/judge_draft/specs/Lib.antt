@@ -1,2 +1,4 @@
 pub mod Drafts
+pub mod Chosen
 pub mod Demands
+pub mod Examples

@@ -1,3 +1,7 @@
-pub mod Table
-pub mod Told
+pub mod Together
+pub mod Listed
+pub mod Digits
 pub mod Appended
+pub mod Grouped
+pub mod Filled
+pub mod Skipped

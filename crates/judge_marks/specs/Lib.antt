@@ -1,1 +1,3 @@
+pub mod Listed
+pub mod Holding
 pub mod Marks

@@ -1,2 +1,4 @@
+pub mod Ids
 pub mod Numbers
 pub mod Names
+pub mod Keys

@@ -1,4 +1,5 @@
-pub mod Words
+pub mod Numbers
+pub mod Chains
 pub mod Children
 pub mod Walks
 pub mod Parents

@@ -1,1 +1,2 @@
 pub mod Procedures
+pub mod Examples

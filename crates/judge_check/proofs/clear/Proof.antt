@@ -1,7 +1,7 @@
 -- `judge_check::clear` meets its contract.
 -- Assumes nothing.
 use borrow.Author.Needs.{needs}
-use Rattle.judge_check.proofs.Cleared.{ToClear, clear-start, clear-room, clear-next, clear-over}
+use Rattle.judge_check.proofs.Steps.{ToClear, clear-start, clear-room, clear-next, clear-over}
 use Prim.Native.Nat.{_-_}
 use Rattle.judge_check.proofs.clear.Statement.{statement}
 use Rattle.judge_check.proofs.clear.Tie as tie

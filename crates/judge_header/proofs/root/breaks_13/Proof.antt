@@ -11,8 +11,11 @@ is-role-requires c κs = search needs
 has-type-requires : tie.Need-has-type-requires
 has-type-requires c κs = search needs
 
-has-one-labeler-requires : tie.Need-has-one-labeler-requires
-has-one-labeler-requires c κs = search needs
+only-requires : tie.Need-only-requires
+only-requires c κs = search needs
+
+is-one-requires : tie.Need-is-one-requires
+is-one-requires c κs = search needs
 
 returns : tie.Need-returns
 returns c = search thirteen-labelers
@@ -29,7 +32,8 @@ breaks-13-spec =
     (tie.spec
     is-role-requires
     has-type-requires
-    has-one-labeler-requires
+    only-requires
+    is-one-requires
     returns
     returns-2
     returns-3)

@@ -1,3 +1,0 @@
-pub mod Looking
-pub mod TheOne
-pub mod Ordered

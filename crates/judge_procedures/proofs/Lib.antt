@@ -1,2 +1,0 @@
-pub mod Elsewhere
-pub mod Examples
