@@ -42,7 +42,7 @@ isBroken d t (CodeRow k) =
 isBroken d t (NameRow i k) = not (someRow (isRegistered (attribute d i (text "extension")) (said d k)) (t .names))
 isBroken d t (NoDocument k) = someRow (isDocument (attribute d k (text "root"))) (t .history)
 isBroken d t (NoVersion s k) = someRow (isVersion (attribute d s (text "root")) (attribute d k (text "value"))) (t .history)
-isBroken d t (NoKeyElsewhere k s) =
-    someRow (isKeyElsewhere (typeCode (d .type)) (attribute d k (text "extension")) (attribute d s (text "root"))) (t .history)
+isBroken d t (NoKeyElsewhere type k s) =
+    someRow (isKeyElsewhere (typeCode type) (attribute d k (text "extension")) (attribute d s (text "root"))) (t .history)
 isBroken d t (NoOtherKey k s) =
     someRow (isOtherKey requestCode (attribute d s (text "root")) (attribute d k (text "extension"))) (t .history)

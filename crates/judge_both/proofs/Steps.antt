@@ -14,8 +14,8 @@ use Rattle.list_findings.specs.Findings.{width, flat}
 use Rattle.list_findings.specs.Merge.{IsMerged, mergeOf}
 use Rattle.list_findings.proofs.Records.{length-flat}
 use Rattle.table_join.specs.Joins.{Joins}
-use Rattle.judge_check.specs.declared.Answer.{Answer}
-use Rattle.judge_check.specs.declared.Answer.the-variants.{Findings, Refused}
+use Rattle.judge_document.specs.declared.Answer.{Answer}
+use Rattle.judge_document.specs.declared.Answer.the-variants.{Findings, Refused}
 use Rattle.judge_check.specs.Check.{Outcome, checkOf}
 use Rattle.judge_check.specs.Check.{Leaves as Checks}
 use Rattle.judge_check.specs.Accepted.{foundIn, Accepted}

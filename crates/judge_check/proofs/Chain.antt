@@ -12,6 +12,7 @@ use lib.Seq.{take-append-seam}
 use mir.Val.{Fits}
 use mir.Syntax.{w64}
 use Rattle.text_scan.specs.Choice.{pick}
+use Rattle.xml_reader.specs.Limits.{documentLimit, tablesLimit, scratchLimit, elementsLimit}
 use Rattle.table_file.specs.Accepted.{Tables, accepted, tablesOf}
 use Rattle.table_file.specs.declared.Accepted.{Accepted}
 use Rattle.xml_elements.specs.declared.Answer.{Answer as Reading}
@@ -19,14 +20,16 @@ use Rattle.xml_elements.specs.declared.Answer.the-variants.{Elements, Refused a
 use Rattle.xml_steps.specs.Reading.{Read, refused, elements}
 use Rattle.xml_elements.specs.Elements.{elementsOf, answerOf, tableAfter, ElementsLeft as Reads}
 use Rattle.xml_nesting.proofs.Read.{Rows, rows-read}
+use Rattle.judge_paths.specs.declared.DocumentType.the-variants.{Neither}
 use Rattle.judge_answers.specs.declared.Places.{Places}
 use Rattle.judge_answers.specs.Answers.{tablesAt}
-use Rattle.judge_marks.specs.Listed.{findingsOf}
-use Rattle.judge_check.specs.declared.Answer.{Answer}
-use Rattle.judge_check.specs.declared.Answer.the-variants.{Findings, Refused}
-use Rattle.judge_check.specs.Drafted.{draftOf}
+use Rattle.judge_findings.specs.Listed.{findingsOf}
+use Rattle.judge_document.specs.declared.Answer.{Answer}
+use Rattle.judge_document.specs.declared.Answer.the-variants.{Findings, Refused}
+use Rattle.judge_document.specs.Drafted.{draftOf}
 use Rattle.judge_check.specs.Long.{longValue}
-use Rattle.judge_check.specs.Check.{Outcome, cleared, answerIn, listIn, judged, underFile, checkOf, Leaves}
+use Rattle.judge_document.specs.Room.{answerIn, listIn}
+use Rattle.judge_check.specs.Check.{Outcome, cleared, judged, underFile, checkOf, Leaves}
 use Rattle.judge_check.proofs.Values.{none-long}
 
 -- ---- what a reading answered
@@ -109,7 +112,7 @@ module _ (s table : List ℕ) (a : Reading) (after : List ℕ) (l : Reads (eleme
         let e : 4 * count - 0 ≡ length (its .rows) = omega (arith, its-rows .wide) in
         rw e (ap (take (length (its .rows))) (its .now-is) ∙ take-append-seam (its .rows) (drop (4 * count) table))
 
-    pub under-few : length (take (4 * count - 0) after) / 4 ≤ 16384
+    pub under-few : length (take (4 * count - 0) after) / 4 ≤ elementsLimit
     under-few = omega (arith, ap length front, its-rows .wide, its-rows .few)
 
     pub under-judged : (t : Tables) (scratch scratch′ list list′ : List ℕ) (r : Answer) → scratch′ ≡ cleared scratch → r ≡ answerIn (findingsOf (draftOf s (take (4 * count - 0) after)) t) list → list′ ≡ listIn (findingsOf (draftOf s (take (4 * count - 0) after)) t) list → Leaves (judged s t scratch table list (elementsOf s)) r scratch′ after list′
@@ -123,29 +126,29 @@ module _ (s table : List ℕ) (a : Reading) (after : List ℕ) (l : Reads (eleme
 
 -- ---- the chain
 module _ (s file scratch table list : List ℕ) where
-  pub refused-1 : 1048576 < length s → Leaves (checkOf s file scratch table list) (Refused 1 (length s)) scratch table list
+  pub refused-1 : documentLimit < length s → Leaves (checkOf s file scratch table list) (Refused 1 (length s)) scratch table list
   unfolding checkOf
-  refused-1 h = rw (lt-ltb 1048576 (length s) h) record { answers = refl; scratches = refl; tables = refl; lists = refl }
+  refused-1 h = rw (lt-ltb documentLimit (length s) h) record { answers = refl; scratches = refl; tables = refl; lists = refl }
 
-  module _ (a : length s ≤ 1048576) where
-    pub refused-2 : 1048576 < length file → Leaves (checkOf s file scratch table list) (Refused 2 (length file)) scratch table list
+  module _ (a : length s ≤ documentLimit) where
+    pub refused-2 : tablesLimit < length file → Leaves (checkOf s file scratch table list) (Refused 2 (length file)) scratch table list
     unfolding checkOf
-    refused-2 h = rw (le-ltb 1048576 (length s) a, lt-ltb 1048576 (length file) h) record { answers = refl; scratches = refl; tables = refl; lists = refl }
+    refused-2 h = rw (le-ltb documentLimit (length s) a, lt-ltb tablesLimit (length file) h) record { answers = refl; scratches = refl; tables = refl; lists = refl }
 
-    module _ (b : length file ≤ 1048576) where
-      pub refused-3 : length scratch < 4096 → Leaves (checkOf s file scratch table list) (Refused 3 4096) scratch table list
+    module _ (b : length file ≤ tablesLimit) where
+      pub refused-3 : length scratch < scratchLimit → Leaves (checkOf s file scratch table list) (Refused 3 scratchLimit) scratch table list
       unfolding checkOf
-      refused-3 h = rw (le-ltb 1048576 (length s) a, le-ltb 1048576 (length file) b, lt-ltb (length scratch) 4096 h) record { answers = refl; scratches = refl; tables = refl; lists = refl }
+      refused-3 h = rw (le-ltb documentLimit (length s) a, le-ltb tablesLimit (length file) b, lt-ltb (length scratch) scratchLimit h) record { answers = refl; scratches = refl; tables = refl; lists = refl }
 
-      module _ (c : 4096 ≤ length scratch) (x : Accepted) (e : x ≡ accepted file) where
+      module _ (c : scratchLimit ≤ length scratch) (x : Accepted) (e : x ≡ accepted file) where
         come : checkOf s file scratch table list ≡ underFile s file scratch table list x
         unfolding checkOf
-        come = rw (le-ltb 1048576 (length s) a, le-ltb 1048576 (length file) b, le-ltb (length scratch) 4096 c, e)
+        come = rw (le-ltb documentLimit (length s) a, le-ltb tablesLimit (length file) b, le-ltb (length scratch) scratchLimit c, e)
 
         pub refused-4 : (place : ℕ) → x ≡ Accepted.Refused place → Leaves (checkOf s file scratch table list) (Refused 4 place) scratch table list
         refused-4 place f = rw (come, f) record { answers = refl; scratches = refl; tables = refl; lists = refl }
 
-        pub all-accepted : (c cs n ns h hs : ℕ) → x ≡ Accepted.Tables c cs n ns h hs → (r : Answer) (scratch′ table′ list′ : List ℕ) → Leaves (judged s (tablesAt file (record { codes = c; ncodes = cs; names = n; nnames = ns; history = h; nhistory = hs; set = 0; first = 0; several = false })) scratch table list (elementsOf s)) r scratch′ table′ list′ → Leaves (checkOf s file scratch table list) r scratch′ table′ list′
+        pub all-accepted : (c cs n ns h hs : ℕ) → x ≡ Accepted.Tables c cs n ns h hs → (r : Answer) (scratch′ table′ list′ : List ℕ) → Leaves (judged s (tablesAt file (record { codes = c; ncodes = cs; names = n; nnames = ns; history = h; nhistory = hs; kind = Neither; set = 0; first = 0; several = false })) scratch table list (elementsOf s)) r scratch′ table′ list′ → Leaves (checkOf s file scratch table list) r scratch′ table′ list′
         unfolding tablesOf
         all-accepted c cs n ns h hs f r scratch′ table′ list′ l =
             let g : accepted file ≡ Accepted.Tables c cs n ns h hs = sym e ∙ f in

@@ -22,15 +22,18 @@ use Rattle.table_join.specs.Joins.{Joins}
 use Rattle.table_join.proofs.Asked.{asked-codes, asked-names, asked-history}
 use Rattle.judge_draft.specs.declared.Demand.{Demand}
 use Rattle.judge_draft.specs.declared.Demand.the-variants.{Nothing, Broken, CodeRow, NameRow, NoDocument, NoVersion, NoKeyElsewhere, NoOtherKey}
-use Rattle.judge_paths.specs.declared.Role.the-variants.{Id, Code, VersionNumber, OperationCode}
+use Rattle.judge_paths.specs.Roles.{Id, Code, VersionNumber, OperationCode}
 use Rattle.judge_draft.specs.Drafts.{Draft, parent, is, attribute, said}
-use Rattle.judge_draft.specs.Chosen.{the}
+use Rattle.judge_below.specs.Chosen.{the}
 use Rattle.judge_draft.specs.Demands.{brokenIf, demandIf}
 use Rattle.judge_header.specs.declared.Header.{Header}
-use Rattle.judge_listed.specs.Known.{breaks1, breaks2, breaks3, breaks4}
+use Rattle.judge_listed.specs.Listed.{breaks1, breaks2, breaks3, breaks4}
 use Rattle.judge_header.specs.Header.{requestCode, idHolds, setHolds, hasType, versionHolds, breaks5, demand6, breaks7, demand8, breaks9, breaks10, breaks11, demand12, breaks13}
-use Rattle.judge_organisations.specs.Organisations.{isName, dunsId, dunsHolds, isSaid, rowOf, isLabelerId, isKey, breaks14, breaks15, breaks16, breaks17, demand18, breaks19, breaks20, demand21, demand22}
-use Rattle.judge_contacts.specs.Contacts.{breaks23, breaks24, breaks25, breaks26, breaks27, breaks28, breaks29, breaks30}
+use Rattle.judge_organisations.specs.Organisations.{isOneName, nameHolds, dunsId, dunsHolds, breaks14, breaks15, breaks16, breaks17, demand18}
+use Rattle.judge_keys.specs.Keys.{isLabelerId, isRegistrantId, breaks19, breaks20, demand21, demand22}
+use Rattle.judge_paths.specs.declared.DocumentType.the-variants.{Registration, Request}
+use Rattle.judge_addresses.specs.Addresses.{breaks24, breaks25}
+use Rattle.judge_contacts.specs.Contacts.{breaks23, breaks26, breaks27, breaks28, breaks29, breaks30}
 use Rattle.judge_registrations.specs.Registrations.{breaks31, breaks32, breaks33, demand34, breaks35, breaks36, breaks37, breaks38}
 use Rattle.judge_procedures.specs.Procedures.{demands, demandOf}
 use Rattle.judge_answers.specs.Answers.{typeCode, isBroken}
@@ -45,6 +48,10 @@ nothing-suits Either = refl
 if-suits : (k : Class) (b : Bool) (x : Demand) → suits k x ≡ true → suits k (demandIf b x) ≡ true
 if-suits k true x e = e
 if-suits k false x e = nothing-suits k
+
+either-suits : (k : Class) (b : Bool) (x y : Demand) → suits k x ≡ true → suits k y ≡ true → suits k (pick b x y) ≡ true
+either-suits k true x y e f = e
+either-suits k false x y e f = f
 
 -- from number i on, each demand of a list suits the class of its number
 abbrev Suit : ℕ → List Demand → Type 0
@@ -66,8 +73,8 @@ module _ (d : Draft) (h : Header) (n : ℕ) where
   document false = refl
 
   all-suit : Suit 0 (Nothing ∷ demands d h n)
-  unfolding classOf demand6 demand8 demand12 rowOf demand18 demand21 demand22 demand34
-  all-suit = (refl, (document (breaks1 d n), (document (breaks2 d n), (document (breaks3 d n), (document (breaks4 d n), (document (breaks5 d h n), (if-suits Either (is d Id n and idHolds d h) (NoDocument n) refl, (document (breaks7 d h n), (if-suits Both (is d Code n and hasType d h) (CodeRow n) refl, (document (breaks9 d h n), (document (breaks10 d h n), (document (breaks11 d h n), (if-suits Either (is d VersionNumber n and setHolds d h and versionHolds d h) (NoVersion (the (h .set)) n) refl, (document (breaks13 d h n), (document (breaks14 d n), (document (breaks15 d n), (document (breaks16 d n), (document (breaks17 d n), (if-suits Both (isName d n and isSaid d n) (rowOf d (parent d n) n) (if-suits Both (dunsHolds d (parent d n)) (NameRow (the (dunsId d (parent d n))) n) refl), (document (breaks19 d n), (document (breaks20 d n), (if-suits Either (isKey d n and setHolds d h) (NoKeyElsewhere n (the (h .set))) refl, (if-suits Either (isLabelerId d n and setHolds d h) (NoOtherKey n (the (h .set))) refl, (document (breaks23 d n), (document (breaks24 d n), (document (breaks25 d n), (document (breaks26 d n), (document (breaks27 d n), (document (breaks28 d n), (document (breaks29 d n), (document (breaks30 d n), (document (breaks31 d n), (document (breaks32 d n), (document (breaks33 d n), (if-suits Both (is d OperationCode n) (CodeRow n) refl, (document (breaks35 d n), (document (breaks36 d n), (document (breaks37 d n), (document (breaks38 d n), tt)))))))))))))))))))))))))))))))))))))))
+  unfolding classOf demand6 demand8 demand12 demand18 demand21 demand22 demand34
+  all-suit = (refl, (document (breaks1 d n), (document (breaks2 d n), (document (breaks3 d n), (document (breaks4 d n), (document (breaks5 d h n), (if-suits Either (is d Id n and idHolds d h) (NoDocument n) refl, (document (breaks7 d h n), (if-suits Both (is d Code n and hasType d h) (CodeRow n) refl, (document (breaks9 d h n), (document (breaks10 d h n), (document (breaks11 d h n), (if-suits Either (is d VersionNumber n and setHolds d h and versionHolds d h) (NoVersion (the (h .set)) n) refl, (document (breaks13 d h n), (document (breaks14 d n), (document (breaks15 d n), (document (breaks16 d n), (document (breaks17 d n), (if-suits Both (isOneName d n and nameHolds d (parent d n) and dunsHolds d (parent d n)) (NameRow (the (dunsId d (parent d n))) n) refl, (document (breaks19 d n), (document (breaks20 d n), (either-suits Either (isLabelerId d n and setHolds d h) (NoKeyElsewhere Request n (the (h .set))) (demandIf (isRegistrantId d n and setHolds d h) (NoKeyElsewhere Registration n (the (h .set)))) refl (if-suits Either (isRegistrantId d n and setHolds d h) (NoKeyElsewhere Registration n (the (h .set))) refl), (if-suits Either (isLabelerId d n and setHolds d h) (NoOtherKey n (the (h .set))) refl, (document (breaks23 d n), (document (breaks24 d n), (document (breaks25 d n), (document (breaks26 d n), (document (breaks27 d n), (document (breaks28 d n), (document (breaks29 d n), (document (breaks30 d n), (document (breaks31 d n), (document (breaks32 d n), (document (breaks33 d n), (if-suits Both (is d OperationCode n) (CodeRow n) refl, (document (breaks35 d n), (document (breaks36 d n), (document (breaks37 d n), (document (breaks38 d n), tt)))))))))))))))))))))))))))))))))))))))
 
   pub class-suits : (p : ℕ) → suits (classOf p) (demandOf d h p n) ≡ true
   unfolding demandOf
@@ -98,7 +105,7 @@ module _ (d : Draft) (c a b : List ℕ) (j : Joins c a b) where
   wanted-joined (NameRow i k) e = no-name (isRegistered (attribute d i (text "extension")) (said d k))
   wanted-joined (NoDocument k) e = never (sym e)
   wanted-joined (NoVersion s k) e = never (sym e)
-  wanted-joined (NoKeyElsewhere k s) e = never (sym e)
+  wanted-joined (NoKeyElsewhere type k s) e = never (sym e)
   wanted-joined (NoOtherKey k s) e = never (sym e)
 
   pub forbidden-joined : (x : Demand) → forbidsRow x ≡ true → Answered Either x
@@ -109,7 +116,7 @@ module _ (d : Draft) (c a b : List ℕ) (j : Joins c a b) where
   forbidden-joined (NameRow i k) e = never (sym e)
   forbidden-joined (NoDocument k) e = asked-history (isDocument (attribute d k (text "root"))) c a b j
   forbidden-joined (NoVersion s k) e = asked-history (isVersion (attribute d s (text "root")) (attribute d k (text "value"))) c a b j
-  forbidden-joined (NoKeyElsewhere k s) e = asked-history (isKeyElsewhere (typeCode (d .type)) (attribute d k (text "extension")) (attribute d s (text "root"))) c a b j
+  forbidden-joined (NoKeyElsewhere type k s) e = asked-history (isKeyElsewhere (typeCode type) (attribute d k (text "extension")) (attribute d s (text "root"))) c a b j
   forbidden-joined (NoOtherKey k s) e = asked-history (isOtherKey requestCode (attribute d s (text "root")) (attribute d k (text "extension"))) c a b j
 
 -- what asks no table is answered alike under all
@@ -121,7 +128,7 @@ document-alike d t u (CodeRow k) e = never (sym e)
 document-alike d t u (NameRow i k) e = never (sym e)
 document-alike d t u (NoDocument k) e = never (sym e)
 document-alike d t u (NoVersion s k) e = never (sym e)
-document-alike d t u (NoKeyElsewhere k s) e = never (sym e)
+document-alike d t u (NoKeyElsewhere type k s) e = never (sym e)
 document-alike d t u (NoOtherKey k s) e = never (sym e)
 
 pub answer-joined : (d : Draft) (c a b : List ℕ) → Joins c a b → (k : Class) (x : Demand) → suits k x ≡ true → isBroken d (tablesOf c) x ≡ stays k (isBroken d (tablesOf a) x) (isBroken d (tablesOf b) x)

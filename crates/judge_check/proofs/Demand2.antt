@@ -16,20 +16,23 @@ use Rattle.list_findings.specs.declared.Finding.{Finding}
 use Rattle.list_findings.specs.Findings.{width, filled}
 use Rattle.list_findings.specs.Lists.{has}
 use Rattle.table_file.specs.declared.Accepted.{Accepted as File}
+use Rattle.xml_reader.specs.Limits.{documentLimit, tablesLimit, scratchLimit}
 use Rattle.table_file.specs.Accepted.{Tables, accepted, tablesOf}
 use Rattle.xml_steps.specs.Reading.{Read, refused, elements}
 use Rattle.xml_elements.specs.Elements.{elementsOf}
 use Rattle.xml_nesting.proofs.Read.{Rows, rows-read}
 use Rattle.judge_draft.specs.Drafts.{Draft, draft, count}
 use Rattle.judge_header.specs.Header.{headerOf}
-use Rattle.judge_marks.specs.Listed.{finding, broken, findingsOf}
-use Rattle.judge_marks.specs.Holding.{Judged, Holds, InDocumentOrder}
-use Rattle.judge_marks.proofs.Listed.{held-exactly, listed-holds, empty-unbroken, unbroken-empty}
-use Rattle.judge_check.specs.declared.Answer.{Answer}
-use Rattle.judge_check.specs.declared.Answer.the-variants.{Findings, Refused}
-use Rattle.judge_check.specs.Drafted.{draftAs, draftOf}
+use Rattle.judge_findings.specs.Listed.{finding, broken, findingsOf}
+use Rattle.judge_findings.specs.Holding.{Judged, Holds, InDocumentOrder}
+use Rattle.judge_findings.proofs.Listed.{held-exactly, listed-holds, empty-unbroken, unbroken-empty}
+use Rattle.judge_document.specs.declared.Answer.{Answer}
+use Rattle.judge_document.specs.declared.Answer.the-variants.{Findings, Refused}
+use Rattle.judge_notes.proofs.Noted.{notes-length, note-first, note-after}
+use Rattle.judge_document.specs.Drafted.{draftAs, typeIn, draftOf}
 use Rattle.judge_check.specs.Long.{longValue}
-use Rattle.judge_check.specs.Check.{Outcome, cleared, unlessLong, refuse, answerIn, listIn, judged, underFile, checkOf, Leaves}
+use Rattle.judge_document.specs.Room.{answerIn, listIn}
+use Rattle.judge_check.specs.Check.{Outcome, cleared, unlessLong, refuse, judged, underFile, checkOf, Leaves}
 use Rattle.judge_check.specs.Accepted.{foundIn, Accepted}
 use Rattle.judge_check.proofs.Values.{none-long}
 
@@ -82,12 +85,12 @@ module _ (s file scratch table list : List ℕ) (n : ℕ) where
 
   pub accepted-check : checkOf s file scratch table list .answer ≡ Findings n → Accepted s file list n (checkOf s file scratch table list .list)
   unfolding checkOf
-  accepted-check = first (ltb 1048576 (length s)) (ltb 1048576 (length file)) (ltb (length scratch) 4096)
+  accepted-check = first (ltb documentLimit (length s)) (ltb tablesLimit (length file)) (ltb (length scratch) scratchLimit)
     where
-      first : (a b c : Bool) → Fine (pick a (refuse scratch table list 1 (length s)) (pick b (refuse scratch table list 2 (length file)) (pick c (refuse scratch table list 3 4096) (underFile s file scratch table list (accepted file)))))
+      first : (a b c : Bool) → Fine (pick a (refuse scratch table list 1 (length s)) (pick b (refuse scratch table list 2 (length file)) (pick c (refuse scratch table list 3 scratchLimit) (underFile s file scratch table list (accepted file)))))
       first true b c e = refused-never 1 (length s) n e
       first false true c e = refused-never 2 (length file) n e
-      first false false true e = refused-never 3 4096 n e
+      first false false true e = refused-never 3 scratchLimit n e
       first false false false e = fine-file (accepted file) e
 
 -- ---- the draft that was read is in document order
@@ -99,8 +102,14 @@ module _ (s : List ℕ) (k : ℕ) (rows : List ℕ) (e : elementsOf s ≡ elemen
   unfolding draftOf draftAs draft
   in-order =
       record {
-        rises = λ i j h g. its .ordered .rises i j h (omega (arith, its .wide));
-        ends = λ j h. its .ordered .ends j (omega (arith, its .wide));
+        rises = λ i j h g.
+            let w : j < length rows / 4 = omega (arith, notes-length s rows (typeIn s rows)) in
+            rw (note-first s rows (typeIn s rows) i (omega arith), note-first s rows (typeIn s rows) j w)
+            (its .ordered .rises i j h (omega (arith, its .wide)));
+        ends = λ j h.
+            let w : j < length rows / 4 = omega (arith, notes-length s rows (typeIn s rows)) in
+            rw (note-first s rows (typeIn s rows) j w, note-after s rows (typeIn s rows) j w)
+            (its .ordered .ends j (omega (arith, its .wide)));
       }
 
   module _ (file : List ℕ) where

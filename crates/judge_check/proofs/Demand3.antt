@@ -14,14 +14,14 @@ use Rattle.text_scan.specs.declared.Found.the-variants.{At, Nothing}
 use Rattle.list_findings.specs.declared.Finding.{Finding}
 use Rattle.list_findings.specs.declared.Merged.the-variants.{Findings as MergedFindings, Refused as MergedRefused}
 use Rattle.list_findings.specs.Findings.{width, flat, filled, records}
-use Rattle.list_findings.specs.Merge.{Merging, firstBad, merged, firstFault, mergeOf}
+use Rattle.list_findings.specs.Merge.{Merging as Merging, firstBad, merged, firstFault, mergeOf}
 use Rattle.list_findings.proofs.Records.{records-flat, length-flat}
 use Rattle.table_file.specs.Accepted.{Tables, tablesOf}
 use Rattle.table_join.specs.Joins.{Joins}
 use Rattle.xml_steps.specs.Reading.{Read, elements}
 use Rattle.xml_elements.specs.Elements.{elementsOf}
-use Rattle.judge_check.specs.declared.Answer.the-variants.{Findings, Refused}
-use Rattle.judge_check.specs.Drafted.{draftOf}
+use Rattle.judge_document.specs.declared.Answer.the-variants.{Findings, Refused}
+use Rattle.judge_document.specs.Drafted.{draftOf}
 use Rattle.judge_check.specs.Check.{checkOf}
 use Rattle.judge_check.specs.Accepted.{foundIn, Accepted}
 use Rattle.judge_check.proofs.Demand2.{accepted-check, in-order}

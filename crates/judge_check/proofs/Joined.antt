@@ -18,11 +18,11 @@ use Rattle.judge_header.specs.declared.Header.{Header}
 use Rattle.judge_header.specs.Header.{headerOf}
 use Rattle.judge_procedures.specs.Procedures.{demandOf}
 use Rattle.judge_check.specs.Suits.{suits}
-use Rattle.judge_marks.specs.Listed.{broken, findingsOf}
-use Rattle.judge_marks.specs.Holding.{InDocumentOrder}
+use Rattle.judge_findings.specs.Listed.{broken, findingsOf}
+use Rattle.judge_findings.specs.Holding.{InDocumentOrder}
 use Rattle.judge_check.proofs.Classes.{class-suits, document-alike, answer-joined}
-use Rattle.judge_marks.proofs.Together.{Mark, these, Right, Agrees, together}
-use Rattle.judge_marks.proofs.Listed.{mark, marksFrom, marks-ordered, marks-right, these-listed, listed-good}
+use Rattle.judge_findings.proofs.Together.{Mark, these, Right, Agrees, together}
+use Rattle.judge_findings.proofs.Listed.{mark, marksFrom, marks-ordered, marks-right, these-listed, listed-good}
 
 answered-alike : (d : Draft) (t u : Tables) (n p : ℕ) → classOf p ≡ DocumentOnly → broken d (headerOf d) t n p ≡ broken d (headerOf d) u n p
 unfolding broken

@@ -1,6 +1,6 @@
 pub mod Classes
 pub mod Joined
-pub mod Steps
+pub mod Cleared
 pub mod Values
 pub mod Chain
 pub mod Demand2

@@ -9,8 +9,8 @@ use Rattle.list_findings.specs.Findings.{width, filled}
 use Rattle.table_file.specs.Accepted.{tablesOf}
 use Rattle.xml_steps.specs.Reading.{elements}
 use Rattle.xml_elements.specs.Elements.{elementsOf}
-use Rattle.judge_marks.specs.Listed.{findingsOf}
-use Rattle.judge_check.specs.Drafted.{draftOf}
+use Rattle.judge_findings.specs.Listed.{findingsOf}
+use Rattle.judge_document.specs.Drafted.{draftOf}
 
 -- the findings of a document with these rows under a file
 unfoldable pub foundIn : List ℕ → List ℕ → List ℕ → List Finding

@@ -1,25 +1,23 @@
 -- The check (document 01, "Refusal numbers"): refusals 1 to 11 in their order, or the findings; and what each leaves of the memory that is lent.
 -- Assumes nothing.
-use Prim.Native.Nat.{ℕ, zero, suc, _*_, _/_}
+use Prim.Native.Nat.{ℕ, zero, suc, _*_}
 use mathlib.Core.Path.{_≡_}
-use mathlib.Core.Bool.{Bool}
 use mathlib.Core.List.{List, [], _∷_, _++_}
 use lib.Dec.{leb, ltb}
 use lib.ListN.{length, drop}
 use Rattle.text_scan.specs.Choice.{pick}
 use Rattle.text_scan.specs.declared.Found.{Found}
 use Rattle.text_scan.specs.declared.Found.the-variants.{At, Nothing}
-use Rattle.xml_reader.specs.Limits.{documentLimit, tablesLimit}
-use Rattle.list_findings.specs.declared.Finding.{Finding}
-use Rattle.list_findings.specs.Findings.{width, filled}
+use Rattle.xml_reader.specs.Limits.{documentLimit, tablesLimit, scratchLimit}
 use Rattle.table_file.specs.declared.Accepted.{Accepted}
 use Rattle.table_file.specs.Accepted.{Tables, accepted, tablesOf}
 use Rattle.xml_steps.specs.Reading.{Read, refused, elements}
 use Rattle.xml_elements.specs.Elements.{elementsOf}
-use Rattle.judge_marks.specs.Listed.{findingsOf}
-use Rattle.judge_check.specs.declared.Answer.{Answer}
-use Rattle.judge_check.specs.declared.Answer.the-variants.{Findings, Refused}
-use Rattle.judge_check.specs.Drafted.{draftOf}
+use Rattle.judge_findings.specs.Listed.{findingsOf}
+use Rattle.judge_document.specs.declared.Answer.{Answer}
+use Rattle.judge_document.specs.declared.Answer.the-variants.{Refused}
+use Rattle.judge_document.specs.Drafted.{draftOf}
+use Rattle.judge_document.specs.Room.{answerIn, listIn}
 use Rattle.judge_check.specs.Long.{longValue}
 
 -- what a check answers, and what the scratch area, the element table and the findings list then hold
@@ -35,17 +33,7 @@ zeros zero = []
 zeros (suc m) = 0 ∷ zeros m
 
 unfoldable pub cleared : List ℕ → List ℕ
-cleared scratch = zeros 4096 ++ drop 4096 scratch
-
--- 11: findings needed; otherwise the findings, from the front of the list
-abbrev pub fits : List Finding → List ℕ → Bool
-fits found list = leb (length found) (length list / width)
-
-unfoldable pub answerIn : List Finding → List ℕ → Answer
-answerIn found list = pick (fits found list) (Findings (length found)) (Refused 11 (length found))
-
-unfoldable pub listIn : List Finding → List ℕ → List ℕ
-listIn found list = pick (fits found list) (filled found list) list
+cleared scratch = zeros scratchLimit ++ drop scratchLimit scratch
 
 -- 10: the first raw byte
 abbrev pub unlessLong : Found → List ℕ → List ℕ → List ℕ → Outcome → Outcome
@@ -81,7 +69,7 @@ unfoldable pub checkOf : List ℕ → List ℕ → List ℕ → List ℕ → Lis
 checkOf document file scratch table list =
     pick (ltb documentLimit (length document)) (refuse scratch table list 1 (length document))
     (pick (ltb tablesLimit (length file)) (refuse scratch table list 2 (length file))
-    (pick (ltb (length scratch) 4096) (refuse scratch table list 3 4096)
+    (pick (ltb (length scratch) scratchLimit) (refuse scratch table list 3 scratchLimit)
     (underFile document file scratch table list (accepted file))))
 
 -- what is answered and left is an outcome

@@ -14,7 +14,7 @@ wantsRow (CodeRow k) = true
 wantsRow (NameRow i k) = true
 wantsRow (NoDocument k) = false
 wantsRow (NoVersion s k) = false
-wantsRow (NoKeyElsewhere k s) = false
+wantsRow (NoKeyElsewhere type k s) = false
 wantsRow (NoOtherKey k s) = false
 
 abbrev pub forbidsRow : Demand → Bool
@@ -24,7 +24,7 @@ forbidsRow (CodeRow k) = false
 forbidsRow (NameRow i k) = false
 forbidsRow (NoDocument k) = true
 forbidsRow (NoVersion s k) = true
-forbidsRow (NoKeyElsewhere k s) = true
+forbidsRow (NoKeyElsewhere type k s) = true
 forbidsRow (NoOtherKey k s) = true
 
 abbrev pub asksNoTable : Demand → Bool
@@ -34,7 +34,7 @@ asksNoTable (CodeRow k) = false
 asksNoTable (NameRow i k) = false
 asksNoTable (NoDocument k) = false
 asksNoTable (NoVersion s k) = false
-asksNoTable (NoKeyElsewhere k s) = false
+asksNoTable (NoKeyElsewhere type k s) = false
 asksNoTable (NoOtherKey k s) = false
 
 abbrev pub suits : Class → Demand → Bool

@@ -1,3 +1,2 @@
 pub mod Parties
-pub mod Addresses
 pub mod Telecoms

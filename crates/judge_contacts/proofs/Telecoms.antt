@@ -2,29 +2,31 @@
 -- Assumes nothing.
 use mathlib.Core.Path.{_≡_, refl, _∙_}
 use mathlib.Core.Bool.{Bool, true, false}
+use mathlib.Core.Logic.{_⊎_, inl, inr}
 use Prim.Native.Nat.{ℕ, zero, suc}
 use lib.Dec.{leb, ltb}
 use lib.ListN.{length}
 use native.Mathlib.Omega.{arith}
-use borrow.Author.Tests.{le-leb, le-ltb}
+use borrow.Author.Tests.{le-leb, le-ltb, ne-eqb}
 use Rattle.text_scan.specs.Choice.{not}
 use Rattle.text_scan.specs.Bytes.{text}
 use Rattle.text_telephones.specs.Telephones.{isTelephone}
-use Rattle.judge_paths.specs.declared.Role.the-variants.{Agent, ContactParty, Telecom}
-use Rattle.judge_draft.specs.declared.Test.the-variants.{Any, Telephone, Mail}
-use Rattle.judge_draft.specs.Drafts.{Draft, is, attribute, isEmpty}
-use Rattle.judge_draft.specs.Chosen.{valueBegins, chosen, wanted}
+use Rattle.judge_paths.specs.Roles.{Agent, ContactParty, Telecom}
+use Rattle.judge_below.specs.declared.Test.the-variants.{Any, Telephone, Mail}
+use Rattle.judge_draft.specs.Drafts.{Draft, role, is, attribute, isEmpty, valueBegins}
+use Rattle.judge_below.specs.Chosen.{chosen, wanted}
 use Rattle.judge_contacts.specs.Contacts.{hasTelecoms, breaks26, breaks27, breaks28, breaks29}
 
 -- ---- who has telecoms
-module _ (d : Draft) (n : ℕ) (a : Bool) (e : a ≡ is d ContactParty n) where
-  pub telecoms-party : a ≡ true → true ≡ hasTelecoms d n
-  unfolding hasTelecoms
-  telecoms-party f = rw (← e, f)
+module _ (d : Draft) (n q : ℕ) (e : q ≡ role d n) where
+  pub telecoms-of : (q ≡ Agent) ⊎ (q ≡ ContactParty) → true ≡ hasTelecoms d n
+  unfolding hasTelecoms is
+  telecoms-of (inl f) = rw (← e, f)
+  telecoms-of (inr f) = rw (← e, f)
 
-  pub telecoms-agent : a ≡ false → (r : Bool) → r ≡ is d Agent n → r ≡ hasTelecoms d n
-  unfolding hasTelecoms
-  telecoms-agent f r g = g ∙ rw (← e, f)
+  pub telecoms-none : ((q ≡ Agent) ⊎ (q ≡ ContactParty) → ⊥) → false ≡ hasTelecoms d n
+  unfolding hasTelecoms is
+  telecoms-none h = rw (← e, ne-eqb q Agent (λ f. h (inl f)), ne-eqb q ContactParty (λ f. h (inr f)))
 
 -- ---- 26 to 28
 few : (x : ℕ) → ltb x 2 ≡ not (leb 2 x)

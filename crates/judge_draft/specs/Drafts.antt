@@ -1,48 +1,49 @@
 -- A draft that was read, in the words of the procedures: its elements by number, the role of each, its attributes and its text. An
 -- absent attribute or text is the empty string, so that an empty one is a missing one.
 -- Assumes nothing.
-use Prim.Native.Nat.{ℕ, _/_}
+use Prim.Native.Nat.{ℕ, _*_, _/_}
 use mathlib.Core.Bool.{Bool}
 use mathlib.Core.List.{List}
-use lib.Dec.{eqb, ltb}
+use lib.Dec.{eqb}
 use lib.ListN.{length, getD}
+use Rattle.text_scan.specs.Bytes.{text}
+use Rattle.text_facts.specs.Strings.{equal, beginsWith}
 use Rattle.xml_steps.specs.Reading.{parentOf, firstOf, afterOf}
 use Rattle.xml_values.specs.Attributes.{attributeOf}
 use Rattle.xml_texts.specs.Texts.{textOf}
-use Rattle.judge_paths.specs.declared.DocumentType.{DocumentType}
-use Rattle.judge_paths.specs.declared.Role.{Role}
-use Rattle.judge_paths.specs.Roles.{roleNumber}
+use Rattle.judge_paths.specs.Roles.{isKnown as isKnownRole}
 
--- the document, its element table, the number of each element's role, and the document's type
+-- the document, and its notes: for each element its role, its parent, its first byte and the byte after its end
 pub record Draft : Type 0 where
   pub bytes : List ℕ
-  pub rows : List ℕ
-  pub roles : List ℕ
-  pub type : DocumentType
+  pub notes : List ℕ
 
-unfoldable pub draft : List ℕ → List ℕ → List ℕ → DocumentType → Draft
-draft bytes rows roles type = record { bytes = bytes; rows = rows; roles = roles; type = type }
+unfoldable pub draft : List ℕ → List ℕ → Draft
+draft bytes notes = record { bytes = bytes; notes = notes }
 
--- the number of elements, each of which has a row of four numbers
+-- the number of elements
 abbrev pub count : Draft → ℕ
-count d = length (d .rows) / 4
+count d = length (d .notes) / 4
+
+abbrev pub role : Draft → ℕ → ℕ
+role d n = getD (d .notes) (4 * n) 0
 
 abbrev pub parent : Draft → ℕ → ℕ
-parent d n = parentOf (d .rows) n
+parent d n = parentOf (d .notes) n
 
 abbrev pub first : Draft → ℕ → ℕ
-first d n = firstOf (d .rows) n
+first d n = firstOf (d .notes) n
 
 abbrev pub after : Draft → ℕ → ℕ
-after d n = afterOf (d .rows) n
+after d n = afterOf (d .notes) n
 
 -- element n has this role
-unfoldable pub is : Draft → Role → ℕ → Bool
-is d r n = eqb (getD (d .roles) n 0) (roleNumber r)
+unfoldable pub is : Draft → ℕ → ℕ → Bool
+is d r n = eqb (role d n) r
 
--- element n is known: Unknown and Unlisted are the numbers 0 and 1
+-- element n is known
 unfoldable pub isKnown : Draft → ℕ → Bool
-isKnown d n = ltb 1 (getD (d .roles) n 0)
+isKnown d n = isKnownRole (role d n)
 
 -- what the attribute of this name says, and what the element's text says
 unfoldable pub attribute : Draft → ℕ → List ℕ → List ℕ
@@ -53,3 +54,9 @@ said d n = textOf (d .bytes) (first d n)
 
 abbrev pub isEmpty : List ℕ → Bool
 isEmpty s = eqb (length s) 0
+
+abbrev pub attributeIs : Draft → List ℕ → List ℕ → ℕ → Bool
+attributeIs d name value k = equal (attribute d k name) value
+
+abbrev pub valueBegins : Draft → List ℕ → ℕ → Bool
+valueBegins d start k = beginsWith start (attribute d k (text "value"))

@@ -1,4 +1,2 @@
 pub mod Drafts
-pub mod Chosen
 pub mod Demands
-pub mod Examples

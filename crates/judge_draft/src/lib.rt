@@ -1,32 +1,16 @@
-// A draft that was read, for the procedures. It is lent as its document, its element table, the numbers of its elements' roles and its
-// type: values of an element put to a test, and the elements below an element that are looked for.
-mod chosen;
-mod tests;
-
-pub use chosen::ancestor;
-pub use chosen::how_many;
-pub use chosen::is_known;
-pub use chosen::is_only;
-pub use chosen::is_only_kid;
-pub use chosen::is_role;
-pub use chosen::none;
-pub use chosen::only;
-pub use chosen::only_kid;
-pub use chosen::parent;
-use judge_paths::Role;
-pub use tests::attribute_begins;
-pub use tests::attribute_is;
-pub use tests::attribute_is_day;
-pub use tests::attribute_is_empty;
-pub use tests::attribute_is_guid;
-pub use tests::attribute_is_labeler_code;
-pub use tests::attribute_is_telephone;
-pub use tests::attribute_version;
-pub use tests::attribute_without_space;
-pub use tests::first_byte;
-pub use tests::number;
-pub use tests::text_is;
-pub use tests::text_is_empty;
+// A draft that was read, for the procedures. It is lent as its document and its notes: what an attribute or the text of an element says, put to a
+// test. The tests look at the document itself where a value says the bytes that stand there, and take a room for it only where it has to be
+// decoded.
+ghost use mathlib.Core.Path.{_≡_};
+ghost use Prim.Native.Nat.{_+_, _*_, _^_, _<_};
+ghost use lib.ListN.{getD};
+ghost use Rattle.text_facts.specs.Strings.{equal, beginsWith, withoutSpace, isGuid, isLabelerCode};
+ghost use Rattle.text_numbers.specs.Numbers.{versionOf};
+ghost use Rattle.text_numbers.specs.Days.{isDay};
+ghost use Rattle.text_telephones.specs.Telephones.{isTelephone};
+ghost use Rattle.judge_draft.specs.Drafts.{draft, role, parent, first, after, is, isKnown, attribute, said, isEmpty};
+use judge_paths::DocumentType;
+use xml_values::Place;
 
 // What a procedure demands of an element, from the document alone: nothing, that it is broken, a row of the code list or the register
 // that is there, or a row of the history that is not. It holds the numbers of the elements whose values the row is asked for.
@@ -37,25 +21,184 @@ pub enum Demand {
     NameRow(usize, usize),
     NoDocument(usize),
     NoVersion(usize, usize),
-    NoKeyElsewhere(usize, usize),
+    NoKeyElsewhere(DocumentType, usize, usize),
     NoOtherKey(usize, usize),
 }
 
-// What an element that is looked for passes: anything, the root of its id, the start of its telecom value, its operation code, no text.
-pub enum Test {
-    Any,
-    DunsRoot,
-    LabelerRoot,
-    Telephone,
-    Mail,
-    Agent,
-    Import,
-    Empty,
+// The number at place k of element n's notes, or 0 past their end.
+pub fn number(notes: &[u32], n: usize, k: usize) -> usize
+    requires { ⌜ k < 4 ⌝ }
+    ensures { λ r. ⌜ (r ≡ getD (now (notes .entry)) (4 * n + k) 0) × (r < 2 ^ 32) ⌝ }
+{
+    if notes.len() <= n {
+        return 0;
+    }
+    let i = 4 * n + k;
+    if i < notes.len() {
+        return notes[i] as usize;
+    }
+    0
 }
 
-// What is looked for below an element: the elements of a role, so many levels below it, that pass a test.
-pub struct Wanted {
-    pub role: Role,
-    pub levels: usize,
-    pub test: Test,
+// The role of element n.
+pub fn role_at(document: &[u8], notes: &[u32], n: usize) -> u32
+    ensures { λ r. ⌜ r ≡ role (draft (now (document .entry)) (now (notes .entry))) n ⌝ }
+{
+    number(notes, n, 0) as u32
+}
+
+// Whether element n has this role.
+pub fn is_role(document: &[u8], notes: &[u32], n: usize, wanted: u32) -> bool
+    ensures { λ r. ⌜ r ≡ is (draft (now (document .entry)) (now (notes .entry))) wanted n ⌝ }
+{
+    number(notes, n, 0) == wanted as usize
+}
+
+// Whether element n is known.
+pub fn is_known(document: &[u8], notes: &[u32], n: usize) -> bool
+    ensures { λ r. ⌜ r ≡ isKnown (draft (now (document .entry)) (now (notes .entry))) n ⌝ }
+{
+    1 < number(notes, n, 0)
+}
+
+// The number of element n's parent.
+pub fn parent(document: &[u8], notes: &[u32], n: usize) -> usize
+    ensures { λ r. ⌜ r ≡ parent (draft (now (document .entry)) (now (notes .entry))) n ⌝ }
+{
+    number(notes, n, 1)
+}
+
+// The byte after element n.
+pub fn byte_after(document: &[u8], notes: &[u32], n: usize) -> usize
+    ensures { λ r. ⌜ r ≡ after (draft (now (document .entry)) (now (notes .entry))) n ⌝ }
+{
+    number(notes, n, 3)
+}
+
+// The first byte of element n.
+pub fn first_byte(document: &[u8], notes: &[u32], n: usize) -> usize
+    ensures { λ r. ⌜ r ≡ first (draft (now (document .entry)) (now (notes .entry))) n ⌝ }
+{
+    number(notes, n, 2)
+}
+
+pub fn attribute_is(document: &[u8], notes: &[u32], n: usize, name: &[u8], wanted: &[u8]) -> bool
+    ensures { λ r. ⌜ r ≡ equal (attribute (draft (now (document .entry)) (now (notes .entry))) n (now (name .entry))) (now (wanted .entry)) ⌝ }
+{
+    let first = first_byte(document, notes, n);
+    xml_compare::attribute_is(document, first, name, wanted)
+}
+
+pub fn attribute_begins(document: &[u8], notes: &[u32], n: usize, name: &[u8], start: &[u8]) -> bool
+    ensures { λ r. ⌜ r ≡ beginsWith (now (start .entry)) (attribute (draft (now (document .entry)) (now (notes .entry))) n (now (name .entry))) ⌝ }
+{
+    let first = first_byte(document, notes, n);
+    let Place::At(a, e) = xml_values::plain_attribute(document, first, name) else {
+        let mut room = [0u8; 4096];
+        return text_facts::begins_with(
+            xml_values::attribute(document, first, name, &mut room),
+            start,
+        );
+    };
+    text_facts::begins_with(&document[a..e], start)
+}
+
+pub fn attribute_is_empty(document: &[u8], notes: &[u32], n: usize, name: &[u8]) -> bool
+    ensures { λ r. ⌜ r ≡ isEmpty (attribute (draft (now (document .entry)) (now (notes .entry))) n (now (name .entry))) ⌝ }
+{
+    let first = first_byte(document, notes, n);
+    xml_compare::attribute_is(document, first, name, b"")
+}
+
+pub fn attribute_without_space(document: &[u8], notes: &[u32], n: usize, name: &[u8]) -> bool
+    ensures { λ r. ⌜ r ≡ withoutSpace (attribute (draft (now (document .entry)) (now (notes .entry))) n (now (name .entry))) ⌝ }
+{
+    let first = first_byte(document, notes, n);
+    let Place::At(a, e) = xml_values::plain_attribute(document, first, name) else {
+        let mut room = [0u8; 4096];
+        return text_facts::without_space(xml_values::attribute(document, first, name, &mut room));
+    };
+    text_facts::without_space(&document[a..e])
+}
+
+pub fn attribute_is_guid(document: &[u8], notes: &[u32], n: usize, name: &[u8]) -> bool
+    ensures { λ r. ⌜ r ≡ isGuid (attribute (draft (now (document .entry)) (now (notes .entry))) n (now (name .entry))) ⌝ }
+{
+    let first = first_byte(document, notes, n);
+    let Place::At(a, e) = xml_values::plain_attribute(document, first, name) else {
+        let mut room = [0u8; 4096];
+        return text_facts::is_guid(xml_values::attribute(document, first, name, &mut room));
+    };
+    text_facts::is_guid(&document[a..e])
+}
+
+pub fn attribute_is_day(document: &[u8], notes: &[u32], n: usize, name: &[u8]) -> bool
+    ensures { λ r. ⌜ r ≡ isDay (attribute (draft (now (document .entry)) (now (notes .entry))) n (now (name .entry))) ⌝ }
+{
+    let first = first_byte(document, notes, n);
+    let Place::At(a, e) = xml_values::plain_attribute(document, first, name) else {
+        let mut room = [0u8; 4096];
+        return text_numbers::is_day(xml_values::attribute(document, first, name, &mut room));
+    };
+    text_numbers::is_day(&document[a..e])
+}
+
+pub fn attribute_version(document: &[u8], notes: &[u32], n: usize, name: &[u8]) -> u32
+    ensures { λ r. ⌜ r ≡ versionOf (attribute (draft (now (document .entry)) (now (notes .entry))) n (now (name .entry))) ⌝ }
+{
+    let first = first_byte(document, notes, n);
+    let Place::At(a, e) = xml_values::plain_attribute(document, first, name) else {
+        let mut room = [0u8; 4096];
+        return text_numbers::version(xml_values::attribute(document, first, name, &mut room));
+    };
+    text_numbers::version(&document[a..e])
+}
+
+pub fn attribute_is_labeler_code(document: &[u8], notes: &[u32], n: usize, name: &[u8]) -> bool
+    ensures { λ r. ⌜ r ≡ isLabelerCode (attribute (draft (now (document .entry)) (now (notes .entry))) n (now (name .entry))) ⌝ }
+{
+    let first = first_byte(document, notes, n);
+    let Place::At(a, e) = xml_values::plain_attribute(document, first, name) else {
+        let mut room = [0u8; 4096];
+        return text_facts::is_labeler_code(xml_values::attribute(document, first, name, &mut room));
+    };
+    text_facts::is_labeler_code(&document[a..e])
+}
+
+pub fn attribute_is_telephone(document: &[u8], notes: &[u32], n: usize, name: &[u8]) -> bool
+    ensures { λ r. ⌜ r ≡ isTelephone (attribute (draft (now (document .entry)) (now (notes .entry))) n (now (name .entry))) ⌝ }
+{
+    let first = first_byte(document, notes, n);
+    let Place::At(a, e) = xml_values::plain_attribute(document, first, name) else {
+        let mut room = [0u8; 4096];
+        return text_telephones::is_telephone(xml_values::attribute(
+            document,
+            first,
+            name,
+            &mut room,
+        ));
+    };
+    text_telephones::is_telephone(&document[a..e])
+}
+
+pub fn text_is(document: &[u8], notes: &[u32], n: usize, wanted: &[u8]) -> bool
+    ensures { λ r. ⌜ r ≡ equal (said (draft (now (document .entry)) (now (notes .entry))) n) (now (wanted .entry)) ⌝ }
+{
+    let first = first_byte(document, notes, n);
+    let Place::At(a, e) = xml_texts::plain_text(document, first) else {
+        let mut room = [0u8; 4096];
+        return text_facts::same(xml_texts::text(document, first, &mut room), wanted);
+    };
+    text_facts::same(&document[a..e], wanted)
+}
+
+pub fn text_is_empty(document: &[u8], notes: &[u32], n: usize) -> bool
+    ensures { λ r. ⌜ r ≡ isEmpty (said (draft (now (document .entry)) (now (notes .entry))) n) ⌝ }
+{
+    let first = first_byte(document, notes, n);
+    let Place::At(a, e) = xml_texts::plain_text(document, first) else {
+        let mut room = [0u8; 4096];
+        return xml_texts::text(document, first, &mut room).len() == 0;
+    };
+    text_facts::same(&document[a..e], b"")
 }

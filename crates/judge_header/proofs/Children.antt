@@ -1,108 +1,83 @@
 -- Procedures 5 to 13: one law for each branch of the code.
 -- Assumes nothing.
-use mathlib.Core.Path.{_≡_, _∙_}
+use mathlib.Core.Path.{_≡_, refl, sym, ap}
 use mathlib.Core.Bool.{Bool, true, false}
-use Prim.Native.Nat.{ℕ}
+use Prim.Native.Nat.{ℕ, _+_}
+use native.Mathlib.Omega.{arith}
+use borrow.Author.Tests.{eqb-true, eqb-false, eq-eqb, ne-eqb}
+use lib.Dec.{eqb}
+use lib.ListN.{length}
 use Rattle.text_scan.specs.Choice.{not}
 use Rattle.text_scan.specs.declared.Found.{Found}
-use Rattle.judge_paths.specs.declared.Role.{Role}
-use Rattle.judge_paths.specs.declared.Role.the-variants.{Root, Id, Code, EffectiveTime, SetId, VersionNumber, Labeler}
+use Rattle.judge_paths.specs.Roles.{Root, Id, Code, EffectiveTime, SetId, VersionNumber, Labeler, RequestLabeler}
 use Rattle.judge_draft.specs.declared.Demand.the-variants.{Nothing, CodeRow, NoDocument, NoVersion}
-use Rattle.judge_draft.specs.declared.Test.the-variants.{Any}
-use Rattle.judge_draft.specs.Drafts.{Draft, is}
-use Rattle.judge_draft.specs.Chosen.{chosen, wanted, onlyOne, one, the}
+use Rattle.judge_below.specs.declared.Test.the-variants.{Any}
+use Rattle.judge_draft.specs.Drafts.{Draft, role, is}
+use Rattle.judge_below.specs.Chosen.{chosen, wanted, one, the}
 use Rattle.judge_header.specs.declared.Header.{Header}
-use Rattle.judge_header.specs.Header.{guidRoot, idHolds, setHolds, typedCode, hasType, dayValue, versionValue, versionHolds, oneAt, oneOfRoot, breaks5, demand6, breaks7, demand8, breaks9, breaks10, breaks11, demand12, breaks13}
-
--- ---- the one child of the root of a role
-module _ (d : Draft) (found : Found) (role : Role) (n : ℕ) (a : Bool) (e : a ≡ is d role n) where
-  pub one-there : a ≡ true → (r : Bool) → r ≡ one found → r ≡ oneAt d found role n
-  unfolding oneAt
-  one-there f r g = g ∙ rw (← e, f)
-
-  pub not-there : a ≡ false → false ≡ oneAt d found role n
-  unfolding oneAt
-  not-there f = rw (← e, f)
+use Rattle.judge_header.specs.declared.Property.{Property}
+use Rattle.judge_header.specs.declared.Property.the-variants.{GuidRoot, OfType, Day, Version}
+use Rattle.judge_header.specs.Header.{idHolds, setHolds, hasType, versionHolds, has, oneAt, oneOfRoot, breaks5, demand6, breaks7, demand8, breaks9, breaks10, breaks11, demand12, labelers, breaks13}
 
 -- ---- one child of the root with a property
-module _ (d : Draft) (found : Found) (role : Role) (p : ℕ → Bool) (n : ℕ) (a : Bool) (e : a ≡ is d Root n) where
-  number-wrong : a ≡ true → (r : Bool) → r ≡ one found → not r ≡ oneOfRoot d found role p n
-  unfolding oneOfRoot
-  number-wrong f r g = rw (← e, f, g)
+module _ (d : Draft) (found : Found) (r : ℕ) (p : Property) (n a : ℕ) (e : a ≡ role d n) where
+  pub number-wrong : a ≡ Root → (t : Bool) → t ≡ one found → not t ≡ oneOfRoot d found r (has d p) n
+  unfolding oneOfRoot is
+  number-wrong f t g = rw (← e, eq-eqb a Root f, g)
 
-  module _ (f : a ≡ false) (b : Bool) (g : b ≡ oneAt d found role n) where
-    property-wrong : b ≡ true → (r : Bool) → r ≡ p n → not r ≡ oneOfRoot d found role p n
-    unfolding oneOfRoot
-    property-wrong h r i = rw (← e, f, ← g, h, i)
+  module _ (f : a ≡ Root → ⊥) where
+    module _ (g : a ≡ r) (b : Bool) (h : b ≡ one found) where
+      pub property-wrong : b ≡ true → (t : Bool) → t ≡ has d p n → not t ≡ oneOfRoot d found r (has d p) n
+      unfolding oneOfRoot oneAt is
+      property-wrong i t j = rw (← e, ne-eqb a Root f, eq-eqb a r g, ← h, i, j)
 
-    elsewhere : b ≡ false → false ≡ oneOfRoot d found role p n
-    unfolding oneOfRoot
-    elsewhere h = rw (← e, f, ← g, h)
+      pub one-of-many : b ≡ false → false ≡ oneOfRoot d found r (has d p) n
+      unfolding oneOfRoot oneAt is
+      one-of-many i = rw (← e, ne-eqb a Root f, eq-eqb a r g, ← h, i)
+
+    pub elsewhere : (a ≡ r → ⊥) → false ≡ oneOfRoot d found r (has d p) n
+    unfolding oneOfRoot oneAt is
+    elsewhere g = rw (← e, ne-eqb a Root f, ne-eqb a r g)
+
+module _ (d : Draft) (h : Header) (n : ℕ) (r : Bool) where
+  pub five-is : r ≡ oneOfRoot d (h .id) Id (has d GuidRoot) n → r ≡ breaks5 d h n
+  unfolding breaks5 has
+  five-is e = e
+
+  pub seven-is : r ≡ oneOfRoot d (h .code) Code (has d OfType) n → r ≡ breaks7 d h n
+  unfolding breaks7 has
+  seven-is e = e
+
+  pub nine-is : r ≡ oneOfRoot d (h .time) EffectiveTime (has d Day) n → r ≡ breaks9 d h n
+  unfolding breaks9 has
+  nine-is e = e
+
+  pub ten-is : r ≡ oneOfRoot d (h .set) SetId (has d GuidRoot) n → r ≡ breaks10 d h n
+  unfolding breaks10 has
+  ten-is e = e
+
+  pub eleven-is : r ≡ oneOfRoot d (h .version) VersionNumber (has d Version) n → r ≡ breaks11 d h n
+  unfolding breaks11 has
+  eleven-is e = e
+
+-- ---- the labelers
+module _ (d : Draft) (n a b : ℕ) (e : a ≡ length (chosen d (wanted RequestLabeler 3 Any) n)) (f : b ≡ length (chosen d (wanted Labeler 3 Any) n)) where
+  pub one-registering : a ≡ 0 → eqb b 1 ≡ eqb (labelers d n) 1
+  one-registering g = rw (← e, ← f) (ap (λ x. eqb x 1) (let q : b ≡ a + b = omega (arith, g) in q))
+
+  pub one-requesting : a ≡ 1 → eqb b 0 ≡ eqb (labelers d n) 1
+  one-requesting g = rw (← e, ← f) (go (eqb b 0) refl)
+    where
+      go : (t : Bool) → eqb b 0 ≡ t → t ≡ eqb (a + b) 1
+      go true h = sym (eq-eqb (a + b) 1 (omega (arith, g, eqb-true b 0 h)))
+      go false h = sym (ne-eqb (a + b) 1 (λ q. eqb-false b 0 h (omega (arith, g, q))))
+
+  pub two-requesting : (a ≡ 0 → ⊥) → (a ≡ 1 → ⊥) → false ≡ eqb (labelers d n) 1
+  two-requesting g h = rw (← e, ← f) (sym (ne-eqb (a + b) 1 (λ q. omega (arith, g, h))))
 
 module _ (d : Draft) (h : Header) (n : ℕ) where
-  -- ---- 5, 7, 9, 10 and 11
+  -- ---- 13
   module _ (a : Bool) (e : a ≡ is d Root n) where
-    pub five-number : a ≡ true → (r : Bool) → r ≡ one (h .id) → not r ≡ breaks5 d h n
-    unfolding breaks5
-    five-number = number-wrong d (h .id) Id (guidRoot d) n a e
-
-    pub five-child : a ≡ false → (b : Bool) → b ≡ oneAt d (h .id) Id n → b ≡ true → (r : Bool) → r ≡ guidRoot d n → not r ≡ breaks5 d h n
-    unfolding breaks5
-    five-child = property-wrong d (h .id) Id (guidRoot d) n a e
-
-    pub five-elsewhere : a ≡ false → (b : Bool) → b ≡ oneAt d (h .id) Id n → b ≡ false → false ≡ breaks5 d h n
-    unfolding breaks5
-    five-elsewhere = elsewhere d (h .id) Id (guidRoot d) n a e
-
-    pub seven-number : a ≡ true → (r : Bool) → r ≡ one (h .code) → not r ≡ breaks7 d h n
-    unfolding breaks7
-    seven-number = number-wrong d (h .code) Code (typedCode d) n a e
-
-    pub seven-child : a ≡ false → (b : Bool) → b ≡ oneAt d (h .code) Code n → b ≡ true → (r : Bool) → r ≡ typedCode d n → not r ≡ breaks7 d h n
-    unfolding breaks7
-    seven-child = property-wrong d (h .code) Code (typedCode d) n a e
-
-    pub seven-elsewhere : a ≡ false → (b : Bool) → b ≡ oneAt d (h .code) Code n → b ≡ false → false ≡ breaks7 d h n
-    unfolding breaks7
-    seven-elsewhere = elsewhere d (h .code) Code (typedCode d) n a e
-
-    pub nine-number : a ≡ true → (r : Bool) → r ≡ one (h .time) → not r ≡ breaks9 d h n
-    unfolding breaks9
-    nine-number = number-wrong d (h .time) EffectiveTime (dayValue d) n a e
-
-    pub nine-child : a ≡ false → (b : Bool) → b ≡ oneAt d (h .time) EffectiveTime n → b ≡ true → (r : Bool) → r ≡ dayValue d n → not r ≡ breaks9 d h n
-    unfolding breaks9
-    nine-child = property-wrong d (h .time) EffectiveTime (dayValue d) n a e
-
-    pub nine-elsewhere : a ≡ false → (b : Bool) → b ≡ oneAt d (h .time) EffectiveTime n → b ≡ false → false ≡ breaks9 d h n
-    unfolding breaks9
-    nine-elsewhere = elsewhere d (h .time) EffectiveTime (dayValue d) n a e
-
-    pub ten-number : a ≡ true → (r : Bool) → r ≡ one (h .set) → not r ≡ breaks10 d h n
-    unfolding breaks10
-    ten-number = number-wrong d (h .set) SetId (guidRoot d) n a e
-
-    pub ten-child : a ≡ false → (b : Bool) → b ≡ oneAt d (h .set) SetId n → b ≡ true → (r : Bool) → r ≡ guidRoot d n → not r ≡ breaks10 d h n
-    unfolding breaks10
-    ten-child = property-wrong d (h .set) SetId (guidRoot d) n a e
-
-    pub ten-elsewhere : a ≡ false → (b : Bool) → b ≡ oneAt d (h .set) SetId n → b ≡ false → false ≡ breaks10 d h n
-    unfolding breaks10
-    ten-elsewhere = elsewhere d (h .set) SetId (guidRoot d) n a e
-
-    pub eleven-number : a ≡ true → (r : Bool) → r ≡ one (h .version) → not r ≡ breaks11 d h n
-    unfolding breaks11
-    eleven-number = number-wrong d (h .version) VersionNumber (versionValue d) n a e
-
-    pub eleven-child : a ≡ false → (b : Bool) → b ≡ oneAt d (h .version) VersionNumber n → b ≡ true → (r : Bool) → r ≡ versionValue d n → not r ≡ breaks11 d h n
-    unfolding breaks11
-    eleven-child = property-wrong d (h .version) VersionNumber (versionValue d) n a e
-
-    pub eleven-elsewhere : a ≡ false → (b : Bool) → b ≡ oneAt d (h .version) VersionNumber n → b ≡ false → false ≡ breaks11 d h n
-    unfolding breaks11
-    eleven-elsewhere = elsewhere d (h .version) VersionNumber (versionValue d) n a e
-
-    -- ---- 13
     pub thirteen-elsewhere : a ≡ false → false ≡ breaks13 d h n
     unfolding breaks13
     thirteen-elsewhere f = rw (← e, f)
@@ -112,9 +87,9 @@ module _ (d : Draft) (h : Header) (n : ℕ) where
       unfolding breaks13
       thirteen-untyped i = rw (← e, f, ← g, i)
 
-      pub thirteen-labelers : b ≡ true → (x : Found) → x ≡ onlyOne (chosen d (wanted Labeler 3 Any) n) → (r : Bool) → r ≡ one x → not r ≡ breaks13 d h n
+      pub thirteen-labelers : b ≡ true → (r : Bool) → r ≡ eqb (labelers d n) 1 → not r ≡ breaks13 d h n
       unfolding breaks13
-      thirteen-labelers i x j r k = rw (← e, f, ← g, i, ← j, k)
+      thirteen-labelers i r j = rw (← e, f, ← g, i, j)
 
   -- ---- 6
   module _ (a : Bool) (e : a ≡ is d Id n) where

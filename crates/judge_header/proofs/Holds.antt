@@ -12,28 +12,18 @@ use Rattle.text_facts.specs.Strings.{equal, isGuid}
 use Rattle.text_numbers.specs.Numbers.{versionOf}
 use Rattle.text_numbers.specs.Days.{isDay}
 use Rattle.judge_paths.specs.declared.DocumentType.the-variants.{Neither, Registration, Request}
-use Rattle.judge_paths.specs.declared.Role.the-variants.{Id, Code, EffectiveTime, SetId, VersionNumber}
+use Rattle.judge_paths.specs.Roles.{Id, Code, EffectiveTime, SetId, VersionNumber}
 use Rattle.judge_draft.specs.Drafts.{Draft, attribute}
-use Rattle.judge_draft.specs.Chosen.{onlyKid}
+use Rattle.judge_below.specs.Chosen.{oneHas, onlyKid}
 use Rattle.judge_header.specs.declared.Header.{Header}
-use Rattle.judge_header.specs.Header.{headerOf, guidRoot, idHolds, setHolds, registrationCode, requestCode, codeIs, typedCode, hasType, typeOf, dayValue, versionValue, versionHolds}
+use Rattle.judge_header.specs.declared.Property.{Property}
+use Rattle.judge_header.specs.declared.Property.the-variants.{GuidRoot, OfType, Day, Version}
+use Rattle.judge_header.specs.Header.{headerOf, guidRoot, idHolds, setHolds, registrationCode, requestCode, codeIs, typedCode, hasType, typeOf, dayValue, versionValue, versionHolds, has}
 
 module _ (d : Draft) where
   pub header-is : (a b c e f : Found) → a ≡ onlyKid d 0 Id → b ≡ onlyKid d 0 Code → c ≡ onlyKid d 0 EffectiveTime → e ≡ onlyKid d 0 SetId → f ≡ onlyKid d 0 VersionNumber → record { id = a; code = b; time = c; set = e; version = f } ≡ headerOf d
   unfolding headerOf
   header-is a b c e f g h i j k = rw (g, h, i, j, k)
-
-  pub guid-is : (k : ℕ) (r : Bool) → r ≡ isGuid (attribute d k (text "root")) → r ≡ guidRoot d k
-  unfolding guidRoot
-  guid-is k r e = e
-
-  pub day-is : (k : ℕ) (r : Bool) → r ≡ isDay (attribute d k (text "value")) → r ≡ dayValue d k
-  unfolding dayValue
-  day-is k r e = e
-
-  pub version-is : (k n : ℕ) → n ≡ versionOf (attribute d k (text "value")) → ltb 0 n ≡ versionValue d k
-  unfolding versionValue
-  version-is k n e = rw e
 
   -- ---- the code
   module _ (type : List ℕ) (k : ℕ) (a : Bool) (e : a ≡ equal (attribute d k (text "codeSystem")) (text "2.16.840.1.113883.6.1")) where
@@ -73,35 +63,44 @@ module _ (d : Draft) where
         unfolding typeOf
         neither-is j = rw (e, ← f, g, ← i, j)
 
-    -- ---- of each one
-    pub no-id : h .id ≡ Nothing → false ≡ idHolds d h
-    unfolding idHolds
-    no-id e = rw e
+  -- ---- the properties
+  module _ (p : Property) (k : ℕ) where
+    pub guid-is : p ≡ GuidRoot → (r : Bool) → r ≡ isGuid (attribute d k (text "root")) → r ≡ has d p k
+    unfolding has guidRoot
+    guid-is e r f = f ∙ rw e
 
-    pub one-id : (k : ℕ) → h .id ≡ At k → (r : Bool) → r ≡ guidRoot d k → r ≡ idHolds d h
-    unfolding idHolds
-    one-id k e r g = g ∙ rw e
+    pub type-is : p ≡ OfType → (r : Bool) → r ≡ typedCode d k → r ≡ has d p k
+    unfolding has
+    type-is e r f = f ∙ rw e
 
-    pub no-set : h .set ≡ Nothing → false ≡ setHolds d h
-    unfolding setHolds
-    no-set e = rw e
+    pub day-is : p ≡ Day → (r : Bool) → r ≡ isDay (attribute d k (text "value")) → r ≡ has d p k
+    unfolding has dayValue
+    day-is e r f = f ∙ rw e
 
-    pub one-set : (k : ℕ) → h .set ≡ At k → (r : Bool) → r ≡ guidRoot d k → r ≡ setHolds d h
-    unfolding setHolds
-    one-set k e r g = g ∙ rw e
+    pub version-is : p ≡ Version → (n : ℕ) → n ≡ versionOf (attribute d k (text "value")) → ltb 0 n ≡ has d p k
+    unfolding has versionValue
+    version-is e n f = rw (e, f)
 
-    pub no-code : h .code ≡ Nothing → false ≡ hasType d h
-    unfolding hasType
-    no-code e = rw e
+  module _ (p : Property) (x : Found) where
+    pub has-no-one : x ≡ Nothing → false ≡ oneHas x (has d p)
+    has-no-one e = rw e
 
-    pub one-code : (k : ℕ) → h .code ≡ At k → (r : Bool) → r ≡ typedCode d k → r ≡ hasType d h
-    unfolding hasType
-    one-code k e r g = g ∙ rw e
+    pub has-one : (k : ℕ) → x ≡ At k → (r : Bool) → r ≡ has d p k → r ≡ oneHas x (has d p)
+    has-one k e r f = f ∙ rw e
 
-    pub no-version : h .version ≡ Nothing → false ≡ versionHolds d h
-    unfolding versionHolds
-    no-version e = rw e
+  module _ (h : Header) (r : Bool) where
+    pub id-is : r ≡ oneHas (h .id) (has d GuidRoot) → r ≡ idHolds d h
+    unfolding idHolds has
+    id-is e = e
 
-    pub one-version : (k : ℕ) → h .version ≡ At k → (r : Bool) → r ≡ versionValue d k → r ≡ versionHolds d h
-    unfolding versionHolds
-    one-version k e r g = g ∙ rw e
+    pub code-is : r ≡ oneHas (h .code) (has d OfType) → r ≡ hasType d h
+    unfolding hasType has
+    code-is e = e
+
+    pub set-is : r ≡ oneHas (h .set) (has d GuidRoot) → r ≡ setHolds d h
+    unfolding setHolds has
+    set-is e = e
+
+    pub number-is : r ≡ oneHas (h .version) (has d Version) → r ≡ versionHolds d h
+    unfolding versionHolds has
+    number-is e = e

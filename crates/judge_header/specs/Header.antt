@@ -1,9 +1,10 @@
 -- Procedures 5 to 13 (document 01, "From 002 section 1.1 to 1.3"), and the type of a document.
 -- Assumes nothing.
-use Prim.Native.Nat.{ℕ}
+use Prim.Native.Nat.{ℕ, _+_}
 use mathlib.Core.Bool.{Bool}
 use mathlib.Core.List.{List}
-use lib.Dec.{ltb}
+use lib.Dec.{eqb, ltb}
+use lib.ListN.{length}
 use Rattle.text_scan.specs.Choice.{pick, _or_, _and_, not}
 use Rattle.text_scan.specs.Bytes.{text}
 use Rattle.text_scan.specs.declared.Found.{Found}
@@ -12,15 +13,16 @@ use Rattle.text_numbers.specs.Numbers.{versionOf}
 use Rattle.text_numbers.specs.Days.{isDay}
 use Rattle.judge_paths.specs.declared.DocumentType.{DocumentType}
 use Rattle.judge_paths.specs.declared.DocumentType.the-variants.{Neither, Registration, Request}
-use Rattle.judge_paths.specs.declared.Role.{Role}
-use Rattle.judge_paths.specs.declared.Role.the-variants.{Root, Id, Code, EffectiveTime, SetId, VersionNumber, Labeler}
+use Rattle.judge_paths.specs.Roles.{Root, Id, Code, EffectiveTime, SetId, VersionNumber, Labeler, RequestLabeler}
 use Rattle.judge_draft.specs.declared.Demand.{Demand}
 use Rattle.judge_draft.specs.declared.Demand.the-variants.{CodeRow, NoDocument, NoVersion}
-use Rattle.judge_draft.specs.declared.Test.the-variants.{Any}
-use Rattle.judge_draft.specs.Drafts.{Draft, is, attribute}
-use Rattle.judge_draft.specs.Chosen.{attributeIs, chosen, wanted, onlyOne, one, oneHas, the, onlyKid}
+use Rattle.judge_below.specs.declared.Test.the-variants.{Any}
+use Rattle.judge_draft.specs.Drafts.{Draft, is, attribute, attributeIs}
+use Rattle.judge_below.specs.Chosen.{chosen, wanted, one, oneHas, the, onlyKid}
 use Rattle.judge_draft.specs.Demands.{demandIf}
 use Rattle.judge_header.specs.declared.Header.{Header}
+use Rattle.judge_header.specs.declared.Property.{Property}
+use Rattle.judge_header.specs.declared.Property.the-variants.{GuidRoot, OfType, Day, Version}
 
 -- the one id, code, effectiveTime, setId and versionNumber of the root
 unfoldable pub headerOf : Draft → Header
@@ -76,13 +78,20 @@ versionValue d k = ltb 0 (versionOf (attribute d k (text "value")))
 unfoldable pub versionHolds : Draft → Header → Bool
 versionHolds d h = oneHas (h .version) (versionValue d)
 
+-- these properties by the names that the code has for them
+unfoldable pub has : Draft → Property → ℕ → Bool
+has d GuidRoot k = guidRoot d k
+has d OfType k = typedCode d k
+has d Day k = dayValue d k
+has d Version k = versionValue d k
+
 -- ---- the procedures
 -- element n is the one of its role
-unfoldable pub oneAt : Draft → Found → Role → ℕ → Bool
+unfoldable pub oneAt : Draft → Found → ℕ → ℕ → Bool
 oneAt d found r n = is d r n and one found
 
 -- one child of the root with a property: a wrong number is found at the root, any other fault at the child
-unfoldable pub oneOfRoot : Draft → Found → Role → (ℕ → Bool) → ℕ → Bool
+unfoldable pub oneOfRoot : Draft → Found → ℕ → (ℕ → Bool) → ℕ → Bool
 oneOfRoot d found r p n = pick (is d Root n) (not (one found)) (oneAt d found r n and not (p n))
 
 unfoldable pub breaks5 : Draft → Header → ℕ → Bool
@@ -110,6 +119,9 @@ breaks11 d h n = oneOfRoot d (h .version) VersionNumber (versionValue d) n
 unfoldable pub demand12 : Draft → Header → ℕ → Demand
 demand12 d h n = demandIf (is d VersionNumber n and setHolds d h and versionHolds d h) (NoVersion (the (h .set)) n)
 
--- 13: a labeler stands three levels below the root
+-- 13: a labeler stands three levels below the root; that of a request has a role of its own
+abbrev pub labelers : Draft → ℕ → ℕ
+labelers d n = length (chosen d (wanted RequestLabeler 3 Any) n) + length (chosen d (wanted Labeler 3 Any) n)
+
 unfoldable pub breaks13 : Draft → Header → ℕ → Bool
-breaks13 d h n = is d Root n and hasType d h and not (one (onlyOne (chosen d (wanted Labeler 3 Any) n)))
+breaks13 d h n = is d Root n and hasType d h and not (eqb (labelers d n) 1)

@@ -1,18 +1,18 @@
-// Procedures 1 to 13, and the type of a document.
+// Procedures 5 to 13, and the type of a document.
 ghost use mathlib.Core.Path.{_≡_};
 ghost use Rattle.judge_draft.specs.Drafts.{draft};
-ghost use Rattle.judge_draft.specs.Chosen.{one, the};
-ghost use Rattle.judge_header.specs.Header.{headerOf, guidRoot, idHolds, setHolds, codeIs, typedCode, hasType, typeOf, dayValue, versionValue, versionHolds};
+ghost use Rattle.judge_below.specs.Chosen.{one, oneHas, the};
+ghost use Rattle.judge_header.specs.Header.{headerOf, idHolds, setHolds, codeIs, typedCode, hasType, typeOf, versionHolds, has};
 
 mod root;
 
+use judge_below::only_kid;
 use judge_draft::attribute_is;
 use judge_draft::attribute_is_day;
 use judge_draft::attribute_is_guid;
 use judge_draft::attribute_version;
-use judge_draft::only_kid;
 use judge_paths::DocumentType;
-use judge_paths::Role;
+use judge_paths::role;
 pub use root::breaks_5;
 pub use root::breaks_7;
 pub use root::breaks_9;
@@ -31,6 +31,15 @@ pub struct Header {
     pub time: Found,
     pub set: Found,
     pub version: Found,
+}
+
+// What is asked of the one child of the root: that its root is a GUID, that it is a code of one of the two types, that its value is a day or a
+// version number.
+pub enum Property {
+    GuidRoot,
+    OfType,
+    Day,
+    Version,
 }
 
 // Whether there is one.
@@ -54,14 +63,14 @@ fn the(found: Found) -> usize
 }
 
 // Reads the header of a draft.
-pub fn header_of(document: &[u8], elements: &[u32], roles: &[u8], kind: DocumentType) -> Header
-    ensures { λ r. ⌜ r ≡ headerOf (draft (now (document .entry)) (now (elements .entry)) (now (roles .entry)) kind) ⌝ }
+pub fn header_of(document: &[u8], notes: &[u32]) -> Header
+    ensures { λ r. ⌜ r ≡ headerOf (draft (now (document .entry)) (now (notes .entry))) ⌝ }
 {
-    let id = only_kid(document, elements, roles, kind, 0, Role::Id);
-    let code = only_kid(document, elements, roles, kind, 0, Role::Code);
-    let time = only_kid(document, elements, roles, kind, 0, Role::EffectiveTime);
-    let set = only_kid(document, elements, roles, kind, 0, Role::SetId);
-    let version = only_kid(document, elements, roles, kind, 0, Role::VersionNumber);
+    let id = only_kid(document, notes, 0, role::ID);
+    let code = only_kid(document, notes, 0, role::CODE);
+    let time = only_kid(document, notes, 0, role::EFFECTIVE_TIME);
+    let set = only_kid(document, notes, 0, role::SET_ID);
+    let version = only_kid(document, notes, 0, role::VERSION_NUMBER);
     Header {
         id: id,
         code: code,
@@ -71,155 +80,93 @@ pub fn header_of(document: &[u8], elements: &[u32], roles: &[u8], kind: Document
     }
 }
 
-// Whether the root of element k, an id or a setId, is a GUID.
-fn guid_root(document: &[u8], elements: &[u32], roles: &[u8], kind: DocumentType, k: usize) -> bool
-    ensures { λ r. ⌜ r ≡ guidRoot (draft (now (document .entry)) (now (elements .entry)) (now (roles .entry)) kind) k ⌝ }
-{
-    attribute_is_guid(document, elements, roles, kind, k, b"root")
-}
-
-// Whether 5 holds.
-pub fn id_holds(
-    document: &[u8],
-    elements: &[u32],
-    roles: &[u8],
-    kind: DocumentType,
-    header: Header,
-) -> bool
-    ensures { λ r. ⌜ r ≡ idHolds (draft (now (document .entry)) (now (elements .entry)) (now (roles .entry)) kind) header ⌝ }
-{
-    let id = header.id;
-    let Found::At(k) = id else {
-        return false;
-    };
-    guid_root(document, elements, roles, kind, k)
-}
-
-// Whether 10 holds.
-pub fn set_holds(
-    document: &[u8],
-    elements: &[u32],
-    roles: &[u8],
-    kind: DocumentType,
-    header: Header,
-) -> bool
-    ensures { λ r. ⌜ r ≡ setHolds (draft (now (document .entry)) (now (elements .entry)) (now (roles .entry)) kind) header ⌝ }
-{
-    let set = header.set;
-    let Found::At(k) = set else {
-        return false;
-    };
-    guid_root(document, elements, roles, kind, k)
-}
-
 // Whether element k is a code of the system, of this type.
-fn code_is(
-    document: &[u8],
-    elements: &[u32],
-    roles: &[u8],
-    kind: DocumentType,
-    wanted: &[u8],
-    k: usize,
-) -> bool
-    ensures { λ r. ⌜ r ≡ codeIs (draft (now (document .entry)) (now (elements .entry)) (now (roles .entry)) kind) (now (wanted .entry)) k ⌝ }
+fn code_is(document: &[u8], notes: &[u32], wanted: &[u8], k: usize) -> bool
+    ensures { λ r. ⌜ r ≡ codeIs (draft (now (document .entry)) (now (notes .entry))) (now (wanted .entry)) k ⌝ }
 {
-    if attribute_is(
-        document,
-        elements,
-        roles,
-        kind,
-        k,
-        b"codeSystem",
-        b"2.16.840.1.113883.6.1",
-    ) {
-        return attribute_is(document, elements, roles, kind, k, b"code", wanted);
+    if attribute_is(document, notes, k, b"codeSystem", b"2.16.840.1.113883.6.1") {
+        return attribute_is(document, notes, k, b"code", wanted);
     }
     false
 }
 
 // Whether element k is a code of one of the two types.
-fn typed_code(document: &[u8], elements: &[u32], roles: &[u8], kind: DocumentType, k: usize) -> bool
-    ensures { λ r. ⌜ r ≡ typedCode (draft (now (document .entry)) (now (elements .entry)) (now (roles .entry)) kind) k ⌝ }
+fn typed_code(document: &[u8], notes: &[u32], k: usize) -> bool
+    ensures { λ r. ⌜ r ≡ typedCode (draft (now (document .entry)) (now (notes .entry))) k ⌝ }
 {
-    if code_is(document, elements, roles, kind, b"51725-0", k) {
+    if code_is(document, notes, b"51725-0", k) {
         return true;
     }
-    code_is(document, elements, roles, kind, b"51726-8", k)
+    code_is(document, notes, b"51726-8", k)
+}
+
+// Whether element k has this property.
+fn has(document: &[u8], notes: &[u32], property: Property, k: usize) -> bool
+    ensures { λ r. ⌜ r ≡ has (draft (now (document .entry)) (now (notes .entry))) property k ⌝ }
+{
+    match property {
+        Property::GuidRoot => attribute_is_guid(document, notes, k, b"root"),
+        Property::OfType => typed_code(document, notes, k),
+        Property::Day => attribute_is_day(document, notes, k, b"value"),
+        Property::Version => 0 < attribute_version(document, notes, k, b"value"),
+    }
+}
+
+// Whether there is one, and it has this property.
+fn one_has(document: &[u8], notes: &[u32], found: Found, property: Property) -> bool
+    ensures { λ r. ⌜ r ≡ oneHas found (has (draft (now (document .entry)) (now (notes .entry))) property) ⌝ }
+{
+    match found {
+        Found::Nothing => false,
+        Found::At(k) => has(document, notes, property, k),
+    }
+}
+
+// Whether 5 holds.
+pub fn id_holds(document: &[u8], notes: &[u32], header: Header) -> bool
+    ensures { λ r. ⌜ r ≡ idHolds (draft (now (document .entry)) (now (notes .entry))) header ⌝ }
+{
+    let id = header.id;
+    one_has(document, notes, id, Property::GuidRoot)
 }
 
 // Whether 7 holds.
-pub fn has_type(
-    document: &[u8],
-    elements: &[u32],
-    roles: &[u8],
-    kind: DocumentType,
-    header: Header,
-) -> bool
-    ensures { λ r. ⌜ r ≡ hasType (draft (now (document .entry)) (now (elements .entry)) (now (roles .entry)) kind) header ⌝ }
+pub fn has_type(document: &[u8], notes: &[u32], header: Header) -> bool
+    ensures { λ r. ⌜ r ≡ hasType (draft (now (document .entry)) (now (notes .entry))) header ⌝ }
 {
     let code = header.code;
-    let Found::At(k) = code else {
-        return false;
-    };
-    typed_code(document, elements, roles, kind, k)
+    one_has(document, notes, code, Property::OfType)
+}
+
+// Whether 10 holds.
+pub fn set_holds(document: &[u8], notes: &[u32], header: Header) -> bool
+    ensures { λ r. ⌜ r ≡ setHolds (draft (now (document .entry)) (now (notes .entry))) header ⌝ }
+{
+    let set = header.set;
+    one_has(document, notes, set, Property::GuidRoot)
+}
+
+// Whether 11 holds.
+pub fn version_holds(document: &[u8], notes: &[u32], header: Header) -> bool
+    ensures { λ r. ⌜ r ≡ versionHolds (draft (now (document .entry)) (now (notes .entry))) header ⌝ }
+{
+    let version = header.version;
+    one_has(document, notes, version, Property::Version)
 }
 
 // The type of a document with this header.
-pub fn type_of(
-    document: &[u8],
-    elements: &[u32],
-    roles: &[u8],
-    kind: DocumentType,
-    header: Header,
-) -> DocumentType
-    ensures { λ r. ⌜ r ≡ typeOf (draft (now (document .entry)) (now (elements .entry)) (now (roles .entry)) kind) header ⌝ }
+pub fn type_of(document: &[u8], notes: &[u32], header: Header) -> DocumentType
+    ensures { λ r. ⌜ r ≡ typeOf (draft (now (document .entry)) (now (notes .entry))) header ⌝ }
 {
     let code = header.code;
     let Found::At(k) = code else {
         return DocumentType::Neither;
     };
-    if code_is(document, elements, roles, kind, b"51725-0", k) {
+    if code_is(document, notes, b"51725-0", k) {
         return DocumentType::Registration;
     }
-    if code_is(document, elements, roles, kind, b"51726-8", k) {
+    if code_is(document, notes, b"51726-8", k) {
         return DocumentType::Request;
     }
     DocumentType::Neither
-}
-
-// Whether the value of element k is a day.
-fn day_value(document: &[u8], elements: &[u32], roles: &[u8], kind: DocumentType, k: usize) -> bool
-    ensures { λ r. ⌜ r ≡ dayValue (draft (now (document .entry)) (now (elements .entry)) (now (roles .entry)) kind) k ⌝ }
-{
-    attribute_is_day(document, elements, roles, kind, k, b"value")
-}
-
-// Whether the value of element k is a version number.
-fn version_value(
-    document: &[u8],
-    elements: &[u32],
-    roles: &[u8],
-    kind: DocumentType,
-    k: usize,
-) -> bool
-    ensures { λ r. ⌜ r ≡ versionValue (draft (now (document .entry)) (now (elements .entry)) (now (roles .entry)) kind) k ⌝ }
-{
-    0 < attribute_version(document, elements, roles, kind, k, b"value")
-}
-
-// Whether 11 holds.
-pub fn version_holds(
-    document: &[u8],
-    elements: &[u32],
-    roles: &[u8],
-    kind: DocumentType,
-    header: Header,
-) -> bool
-    ensures { λ r. ⌜ r ≡ versionHolds (draft (now (document .entry)) (now (elements .entry)) (now (roles .entry)) kind) header ⌝ }
-{
-    let version = header.version;
-    let Found::At(k) = version else {
-        return false;
-    };
-    version_value(document, elements, roles, kind, k)
 }

@@ -1,79 +1,68 @@
 // Procedures 5 to 13: the children of the root, each of which there is one of, and the labeler.
 ghost use mathlib.Core.Path.{_≡_};
 ghost use Rattle.judge_draft.specs.Drafts.{draft};
-ghost use Rattle.judge_header.specs.Header.{oneAt, breaks5, demand6, breaks7, demand8, breaks9, breaks10, breaks11, demand12, breaks13};
+ghost use lib.Dec.{eqb};
+ghost use lib.ListN.{length};
+ghost use Rattle.judge_below.specs.declared.Test.the-variants.{Any};
+ghost use Rattle.judge_below.specs.Chosen.{chosen, wanted};
+ghost use Rattle.judge_header.specs.Header.{has, oneOfRoot, breaks5, demand6, breaks7, demand8, breaks9, breaks10, breaks11, demand12, labelers, breaks13};
 use crate::Header;
-use crate::day_value;
-use crate::guid_root;
+use crate::Property;
+use crate::has;
 use crate::has_type;
 use crate::id_holds;
 use crate::is_one;
 use crate::set_holds;
 use crate::the;
-use crate::typed_code;
 use crate::version_holds;
-use crate::version_value;
+use judge_below::Test;
+use judge_below::Wanted;
+use judge_below::how_many;
 use judge_draft::Demand;
-use judge_draft::Test;
-use judge_draft::Wanted;
 use judge_draft::is_role;
-use judge_draft::only;
-use judge_paths::DocumentType;
-use judge_paths::Role;
+use judge_draft::role_at;
+use judge_paths::role;
 use text_scan::Found;
 
-// Whether element n is the one child of the root of this role.
-fn is_one_at(
+// Whether element n breaks that the root has one child of this role, with this property: a wrong number is found at the root, any other fault at
+// the child.
+fn one_of_root(
     document: &[u8],
-    elements: &[u32],
-    roles: &[u8],
-    kind: DocumentType,
+    notes: &[u32],
     found: Found,
-    role: Role,
+    role: u32,
+    property: Property,
     n: usize,
 ) -> bool
-    ensures { λ r. ⌜ r ≡ oneAt (draft (now (document .entry)) (now (elements .entry)) (now (roles .entry)) kind) found role n ⌝ }
+    ensures { λ r. ⌜ r ≡ oneOfRoot (draft (now (document .entry)) (now (notes .entry))) found role (has (draft (now (document .entry)) (now (notes .entry))) property) n ⌝ }
 {
-    if is_role(document, elements, roles, kind, n, role) {
-        return is_one(found);
+    let is = role_at(document, notes, n);
+    if is == role::ROOT {
+        return !is_one(found);
+    }
+    if is == role {
+        if is_one(found) {
+            return !has(document, notes, property, n);
+        }
+        return false;
     }
     false
 }
 
 // Whether 5 is broken at element n.
-pub fn breaks_5(
-    document: &[u8],
-    elements: &[u32],
-    roles: &[u8],
-    kind: DocumentType,
-    header: Header,
-    n: usize,
-) -> bool
-    ensures { λ r. ⌜ r ≡ breaks5 (draft (now (document .entry)) (now (elements .entry)) (now (roles .entry)) kind) header n ⌝ }
+pub fn breaks_5(document: &[u8], notes: &[u32], header: Header, n: usize) -> bool
+    ensures { λ r. ⌜ r ≡ breaks5 (draft (now (document .entry)) (now (notes .entry))) header n ⌝ }
 {
     let id = header.id;
-    if is_role(document, elements, roles, kind, n, Role::Root) {
-        return !is_one(id);
-    }
-    if is_one_at(document, elements, roles, kind, id, Role::Id, n) {
-        return !guid_root(document, elements, roles, kind, n);
-    }
-    false
+    one_of_root(document, notes, id, role::ID, Property::GuidRoot, n)
 }
 
 // What 6 demands of element n.
-pub fn demand_6(
-    document: &[u8],
-    elements: &[u32],
-    roles: &[u8],
-    kind: DocumentType,
-    header: Header,
-    n: usize,
-) -> Demand
-    ensures { λ r. ⌜ r ≡ demand6 (draft (now (document .entry)) (now (elements .entry)) (now (roles .entry)) kind) header n ⌝ }
+pub fn demand_6(document: &[u8], notes: &[u32], header: Header, n: usize) -> Demand
+    ensures { λ r. ⌜ r ≡ demand6 (draft (now (document .entry)) (now (notes .entry))) header n ⌝ }
 {
-    if is_role(document, elements, roles, kind, n, Role::Id) {
-        if id_holds(document, elements, roles, kind, header) {
+    if is_role(document, notes, n, role::ID) {
+        if id_holds(document, notes, header) {
             return Demand::NoDocument(n);
         }
         return Demand::Nothing;
@@ -82,39 +71,19 @@ pub fn demand_6(
 }
 
 // Whether 7 is broken at element n.
-pub fn breaks_7(
-    document: &[u8],
-    elements: &[u32],
-    roles: &[u8],
-    kind: DocumentType,
-    header: Header,
-    n: usize,
-) -> bool
-    ensures { λ r. ⌜ r ≡ breaks7 (draft (now (document .entry)) (now (elements .entry)) (now (roles .entry)) kind) header n ⌝ }
+pub fn breaks_7(document: &[u8], notes: &[u32], header: Header, n: usize) -> bool
+    ensures { λ r. ⌜ r ≡ breaks7 (draft (now (document .entry)) (now (notes .entry))) header n ⌝ }
 {
     let code = header.code;
-    if is_role(document, elements, roles, kind, n, Role::Root) {
-        return !is_one(code);
-    }
-    if is_one_at(document, elements, roles, kind, code, Role::Code, n) {
-        return !typed_code(document, elements, roles, kind, n);
-    }
-    false
+    one_of_root(document, notes, code, role::CODE, Property::OfType, n)
 }
 
 // What 8 demands of element n.
-pub fn demand_8(
-    document: &[u8],
-    elements: &[u32],
-    roles: &[u8],
-    kind: DocumentType,
-    header: Header,
-    n: usize,
-) -> Demand
-    ensures { λ r. ⌜ r ≡ demand8 (draft (now (document .entry)) (now (elements .entry)) (now (roles .entry)) kind) header n ⌝ }
+pub fn demand_8(document: &[u8], notes: &[u32], header: Header, n: usize) -> Demand
+    ensures { λ r. ⌜ r ≡ demand8 (draft (now (document .entry)) (now (notes .entry))) header n ⌝ }
 {
-    if is_role(document, elements, roles, kind, n, Role::Code) {
-        if has_type(document, elements, roles, kind, header) {
+    if is_role(document, notes, n, role::CODE) {
+        if has_type(document, notes, header) {
             return Demand::CodeRow(n);
         }
         return Demand::Nothing;
@@ -123,99 +92,51 @@ pub fn demand_8(
 }
 
 // Whether 9 is broken at element n.
-pub fn breaks_9(
-    document: &[u8],
-    elements: &[u32],
-    roles: &[u8],
-    kind: DocumentType,
-    header: Header,
-    n: usize,
-) -> bool
-    ensures { λ r. ⌜ r ≡ breaks9 (draft (now (document .entry)) (now (elements .entry)) (now (roles .entry)) kind) header n ⌝ }
+pub fn breaks_9(document: &[u8], notes: &[u32], header: Header, n: usize) -> bool
+    ensures { λ r. ⌜ r ≡ breaks9 (draft (now (document .entry)) (now (notes .entry))) header n ⌝ }
 {
     let time = header.time;
-    if is_role(document, elements, roles, kind, n, Role::Root) {
-        return !is_one(time);
-    }
-    if is_one_at(
+    one_of_root(
         document,
-        elements,
-        roles,
-        kind,
+        notes,
         time,
-        Role::EffectiveTime,
+        role::EFFECTIVE_TIME,
+        Property::Day,
         n,
-    ) {
-        return !day_value(document, elements, roles, kind, n);
-    }
-    false
+    )
 }
 
 // Whether 10 is broken at element n.
-pub fn breaks_10(
-    document: &[u8],
-    elements: &[u32],
-    roles: &[u8],
-    kind: DocumentType,
-    header: Header,
-    n: usize,
-) -> bool
-    ensures { λ r. ⌜ r ≡ breaks10 (draft (now (document .entry)) (now (elements .entry)) (now (roles .entry)) kind) header n ⌝ }
+pub fn breaks_10(document: &[u8], notes: &[u32], header: Header, n: usize) -> bool
+    ensures { λ r. ⌜ r ≡ breaks10 (draft (now (document .entry)) (now (notes .entry))) header n ⌝ }
 {
     let set = header.set;
-    if is_role(document, elements, roles, kind, n, Role::Root) {
-        return !is_one(set);
-    }
-    if is_one_at(document, elements, roles, kind, set, Role::SetId, n) {
-        return !guid_root(document, elements, roles, kind, n);
-    }
-    false
+    one_of_root(document, notes, set, role::SET_ID, Property::GuidRoot, n)
 }
 
 // Whether 11 is broken at element n.
-pub fn breaks_11(
-    document: &[u8],
-    elements: &[u32],
-    roles: &[u8],
-    kind: DocumentType,
-    header: Header,
-    n: usize,
-) -> bool
-    ensures { λ r. ⌜ r ≡ breaks11 (draft (now (document .entry)) (now (elements .entry)) (now (roles .entry)) kind) header n ⌝ }
+pub fn breaks_11(document: &[u8], notes: &[u32], header: Header, n: usize) -> bool
+    ensures { λ r. ⌜ r ≡ breaks11 (draft (now (document .entry)) (now (notes .entry))) header n ⌝ }
 {
     let version = header.version;
-    if is_role(document, elements, roles, kind, n, Role::Root) {
-        return !is_one(version);
-    }
-    if is_one_at(
+    one_of_root(
         document,
-        elements,
-        roles,
-        kind,
+        notes,
         version,
-        Role::VersionNumber,
+        role::VERSION_NUMBER,
+        Property::Version,
         n,
-    ) {
-        return !version_value(document, elements, roles, kind, n);
-    }
-    false
+    )
 }
 
 // What 12 demands of element n.
-pub fn demand_12(
-    document: &[u8],
-    elements: &[u32],
-    roles: &[u8],
-    kind: DocumentType,
-    header: Header,
-    n: usize,
-) -> Demand
-    ensures { λ r. ⌜ r ≡ demand12 (draft (now (document .entry)) (now (elements .entry)) (now (roles .entry)) kind) header n ⌝ }
+pub fn demand_12(document: &[u8], notes: &[u32], header: Header, n: usize) -> Demand
+    ensures { λ r. ⌜ r ≡ demand12 (draft (now (document .entry)) (now (notes .entry))) header n ⌝ }
 {
     let set = header.set;
-    if is_role(document, elements, roles, kind, n, Role::VersionNumber) {
-        if set_holds(document, elements, roles, kind, header) {
-            if version_holds(document, elements, roles, kind, header) {
+    if is_role(document, notes, n, role::VERSION_NUMBER) {
+        if set_holds(document, notes, header) {
+            if version_holds(document, notes, header) {
                 return Demand::NoVersion(the(set), n);
             }
             return Demand::Nothing;
@@ -225,25 +146,40 @@ pub fn demand_12(
     Demand::Nothing
 }
 
-// Whether 13 is broken at element n.
-pub fn breaks_13(
-    document: &[u8],
-    elements: &[u32],
-    roles: &[u8],
-    kind: DocumentType,
-    header: Header,
-    n: usize,
-) -> bool
-    ensures { λ r. ⌜ r ≡ breaks13 (draft (now (document .entry)) (now (elements .entry)) (now (roles .entry)) kind) header n ⌝ }
+// How many elements of this role stand three levels below element n.
+fn three_below(document: &[u8], notes: &[u32], role: u32, n: usize) -> usize
+    ensures { λ r. ⌜ r ≡ length (chosen (draft (now (document .entry)) (now (notes .entry))) (wanted role 3 Any) n) ⌝ }
 {
-    if is_role(document, elements, roles, kind, n, Role::Root) {
-        if has_type(document, elements, roles, kind, header) {
-            let wanted = Wanted {
-                role: Role::Labeler,
-                levels: 3,
-                test: Test::Any,
-            };
-            return !is_one(only(document, elements, roles, kind, wanted, n));
+    let wanted = Wanted {
+        role: role,
+        levels: 3,
+        test: Test::Any,
+    };
+    how_many(document, notes, wanted, n)
+}
+
+// Whether there is one labeler, of a request or of a registration, three levels below element n.
+fn has_one_labeler(document: &[u8], notes: &[u32], n: usize) -> bool
+    ensures { λ r. ⌜ r ≡ eqb (labelers (draft (now (document .entry)) (now (notes .entry))) n) 1 ⌝ }
+{
+    let requesting = three_below(document, notes, role::REQUEST_LABELER, n);
+    let registering = three_below(document, notes, role::LABELER, n);
+    if requesting == 0 {
+        return registering == 1;
+    }
+    if requesting == 1 {
+        return registering == 0;
+    }
+    false
+}
+
+// Whether 13 is broken at element n.
+pub fn breaks_13(document: &[u8], notes: &[u32], header: Header, n: usize) -> bool
+    ensures { λ r. ⌜ r ≡ breaks13 (draft (now (document .entry)) (now (notes .entry))) header n ⌝ }
+{
+    if is_role(document, notes, n, role::ROOT) {
+        if has_type(document, notes, header) {
+            return !has_one_labeler(document, notes, n);
         }
         return false;
     }

@@ -3,80 +3,71 @@
 use mathlib.Core.Path.{_≡_, refl, sym, _∙_}
 use mathlib.Core.Bool.{Bool, true, false}
 use mathlib.Core.List.{List, [], _∷_}
+use mathlib.Core.Logic.{inl, inr}
 use Prim.Native.Nat.{ℕ}
-use borrow.Author.Tests.{eqb-true}
-use lib.Dec.{eqb}
-use lib.ListN.{getD}
+use borrow.Author.Tests.{ne-eqb}
 use Rattle.text_scan.specs.Choice.{not}
 use Rattle.text_scan.specs.Bytes.{text}
 use Rattle.text_scan.specs.Lists.{every, pairs}
 use Rattle.text_scan.proofs.Tests.{never, pick-case, and-true}
 use Rattle.text_facts.specs.Strings.{equal, withoutSpace, isOneOf}
 use Rattle.xml_values.proofs.Unlisted.{unlisted-says}
-use Rattle.judge_paths.specs.declared.Role.{Role}
-use Rattle.judge_paths.specs.declared.Role.the-variants.{Root, Id, Code, Title, EffectiveTime, SetId, VersionNumber, OrganisationId, Telecom, OperationCode}
-use Rattle.judge_paths.specs.Roles.{roleNumber}
-use Rattle.judge_paths.specs.Attributes.{Lists, attributeTable}
-use Rattle.judge_draft.specs.Drafts.{Draft, first, is, attribute}
-use Rattle.judge_listed.specs.Known.{listedAt, otherThan, hasSpace}
+use Rattle.judge_paths.specs.Roles.{Id, Code, OrganisationId, OperationCode}
+use Rattle.judge_paths.specs.Attributes.{Lists, attributeTable, isRole, listedNames}
+use Rattle.judge_draft.specs.Drafts.{Draft, role, first, attribute}
+use Rattle.judge_listed.specs.Listed.{listedAt, otherThan, hasSpace}
+use Rattle.judge_listed.proofs.Groups.{OneOf2}
 
-module _ (d : Draft) (n : ℕ) where
-  -- an element has one role
-  other-role : (r q : Role) → eqb (roleNumber r) (roleNumber q) ≡ false → is d r n ≡ true → is d q n ≡ false
-  unfolding is
-  other-role r q e f = rw (eqb-true (getD (d .roles) n 0) (roleNumber r) f) e
-
-  -- each of the rows that can be the element's does not list the name
+-- ---- a role whose row does not list a name
+module _ (q : ℕ) where
   abbrev Absent : List ℕ → List Lists → Type 0
   Absent name [] = Unit {0}
-  Absent name (x ∷ xs) = (is d (x .role) n ≡ true → isOneOf (x .names) name ≡ false) × Absent name xs
+  Absent name (x ∷ xs) = (isRole q (x .roles) ≡ true → isOneOf (x .names) name ≡ false) × Absent name xs
 
-  absent : (name : List ℕ) (xs : List Lists) → Absent name xs → isOneOf (listedAt d n xs) name ≡ false
-  unfolding listedAt isOneOf
+  absent : (name : List ℕ) (xs : List Lists) → Absent name xs → isOneOf (listedNames q xs) name ≡ false
+  unfolding listedNames isOneOf
   absent name [] a = refl
-  absent name (x ∷ xs) a = pick-case (λ names. isOneOf names name ≡ false) (is d (x .role) n) (x .names) (listedAt d n xs) (a .0) (λ _. absent name xs (a .1))
+  absent name (x ∷ xs) a = pick-case (λ names. isOneOf names name ≡ false) (isRole q (x .roles)) (x .names) (listedNames q xs) (a .0) (λ _. absent name xs (a .1))
 
-  code-absent : is d Code n ≡ false → is d OperationCode n ≡ false → isOneOf (listedAt d n attributeTable) (text "code") ≡ false
+  neither : (a b : ℕ) → (OneOf2 a b q → ⊥) → isRole q (a ∷ b ∷ []) ≡ false
+  neither a b h = rw (ne-eqb q a (λ e. h (inl e)), ne-eqb q b (λ e. h (inr e)))
+
+  code-absent : (OneOf2 Code OperationCode q → ⊥) → isOneOf (listedNames q attributeTable) (text "code") ≡ false
   unfolding isOneOf equal pairs
-  code-absent f g =
+  code-absent h =
       absent (text "code") attributeTable
-      ((λ _. refl), ((λ _. refl), ((λ _. refl), ((λ _. refl), ((λ e. never (sym e ∙ f)), ((λ e. never (sym e ∙ g)), ((λ _. refl), ((λ _. refl), ((λ _. refl), ((λ _. refl), tt))))))))))
+      ((λ _. refl), ((λ _. refl), ((λ _. refl), ((λ e. never (sym e ∙ neither Code OperationCode h)), ((λ _. refl), ((λ _. refl), tt))))))
 
-  extension-absent : is d Id n ≡ false → is d OrganisationId n ≡ false → isOneOf (listedAt d n attributeTable) (text "extension") ≡ false
+  extension-absent : (OneOf2 Id OrganisationId q → ⊥) → isOneOf (listedNames q attributeTable) (text "extension") ≡ false
   unfolding isOneOf equal pairs
-  extension-absent f g =
+  extension-absent h =
       absent (text "extension") attributeTable
-      ((λ _. refl), ((λ e. never (sym e ∙ f)), ((λ e. never (sym e ∙ g)), ((λ _. refl), ((λ _. refl), ((λ _. refl), ((λ _. refl), ((λ _. refl), ((λ _. refl), ((λ _. refl), tt))))))))))
+      ((λ _. refl), ((λ e. never (sym e ∙ neither Id OrganisationId h)), ((λ _. refl), ((λ _. refl), ((λ _. refl), ((λ _. refl), tt))))))
 
-  module _ (o : otherThan d n (listedAt d n attributeTable) ≡ false) where
-    silent : (name : List ℕ) → isOneOf (listedAt d n attributeTable) name ≡ false → attribute d n name ≡ []
-    unfolding otherThan attribute
-    silent name u = unlisted-says (d .bytes) (listedAt d n attributeTable) name u (first d n) o
+-- the two groups have no role in common
+no-code : (q : ℕ) → OneOf2 Id OrganisationId q → isOneOf (listedNames q attributeTable) (text "code") ≡ false
+unfolding listedNames isOneOf equal pairs
+no-code q (inl e) = rw e
+no-code q (inr e) = rw e
 
-    by-extension : is d Code n ≡ false → is d OperationCode n ≡ false → (r : Bool) → r ≡ withoutSpace (attribute d n (text "extension")) → not r ≡ hasSpace d n
-    unfolding withoutSpace every
-    by-extension f g r e = rw (silent (text "code") (code-absent f g), e)
+no-extension : (q : ℕ) → OneOf2 Code OperationCode q → isOneOf (listedNames q attributeTable) (text "extension") ≡ false
+unfolding listedNames isOneOf equal pairs
+no-extension q (inl e) = rw e
+no-extension q (inr e) = rw e
 
-    by-code : is d Id n ≡ false → is d OrganisationId n ≡ false → (r : Bool) → r ≡ withoutSpace (attribute d n (text "code")) → not r ≡ hasSpace d n
-    unfolding withoutSpace every
-    by-code f g r e = rw (silent (text "extension") (extension-absent f g), and-true (withoutSpace (attribute d n (text "code"))), e)
+module _ (d : Draft) (n : ℕ) (o : otherThan d n (listedAt d n) ≡ false) (q : ℕ) (e : q ≡ role d n) where
+  silent : (name : List ℕ) → isOneOf (listedNames q attributeTable) name ≡ false → attribute d n name ≡ []
+  unfolding otherThan attribute
+  silent name u = unlisted-says (d .bytes) (listedAt d n) name (rw e at u) (first d n) o
 
-    module _ (a : Bool) (ea : a ≡ is d Id n) where
-      pub space-at-id : a ≡ true → (r : Bool) → r ≡ withoutSpace (attribute d n (text "extension")) → not r ≡ hasSpace d n
-      space-at-id t = by-extension (other-role Id Code refl (sym ea ∙ t)) (other-role Id OperationCode refl (sym ea ∙ t))
+  pub space-at-id : OneOf2 Id OrganisationId q → (r : Bool) → r ≡ withoutSpace (attribute d n (text "extension")) → not r ≡ hasSpace d n
+  unfolding withoutSpace every
+  space-at-id h r g = rw (silent (text "code") (no-code q h), g)
 
-      module _ (fa : a ≡ false) (b : Bool) (eb : b ≡ is d OrganisationId n) where
-        pub space-at-organisation-id : b ≡ true → (r : Bool) → r ≡ withoutSpace (attribute d n (text "extension")) → not r ≡ hasSpace d n
-        space-at-organisation-id t = by-extension (other-role OrganisationId Code refl (sym eb ∙ t)) (other-role OrganisationId OperationCode refl (sym eb ∙ t))
+  pub space-at-code : OneOf2 Code OperationCode q → (r : Bool) → r ≡ withoutSpace (attribute d n (text "code")) → not r ≡ hasSpace d n
+  unfolding withoutSpace every
+  space-at-code h r g = rw (silent (text "extension") (no-extension q h), and-true (withoutSpace (attribute d n (text "code"))), g)
 
-        module _ (fb : b ≡ false) (c : Bool) (ec : c ≡ is d Code n) where
-          pub space-at-code : c ≡ true → (r : Bool) → r ≡ withoutSpace (attribute d n (text "code")) → not r ≡ hasSpace d n
-          space-at-code _ = by-code (sym ea ∙ fa) (sym eb ∙ fb)
-
-          module _ (fc : c ≡ false) (u : Bool) (eu : u ≡ is d OperationCode n) where
-            pub space-at-operation-code : u ≡ true → (r : Bool) → r ≡ withoutSpace (attribute d n (text "code")) → not r ≡ hasSpace d n
-            space-at-operation-code _ = by-code (sym ea ∙ fa) (sym eb ∙ fb)
-
-            pub space-elsewhere : u ≡ false → false ≡ hasSpace d n
-            unfolding withoutSpace every
-            space-elsewhere fu = rw (silent (text "code") (code-absent (sym ec ∙ fc) (sym eu ∙ fu)), silent (text "extension") (extension-absent (sym ea ∙ fa) (sym eb ∙ fb)))
+  pub space-elsewhere : (OneOf2 Id OrganisationId q → ⊥) → (OneOf2 Code OperationCode q → ⊥) → false ≡ hasSpace d n
+  unfolding withoutSpace every
+  space-elsewhere h i = rw (silent (text "code") (code-absent q i), silent (text "extension") (extension-absent q h))

@@ -2,7 +2,7 @@
 -- Assumes nothing.
 use mathlib.Core.Path.{_≡_, refl}
 use mathlib.Core.Bool.{true, false}
-use mathlib.Core.List.{List, []}
+use mathlib.Core.List.{List}
 use Prim.Native.Nat.{ℕ, _*_, _<_, _≤_}
 use native.Mathlib.Nat.{mul-le-mul-right}
 use native.Mathlib.Omega.{arith}
@@ -13,24 +13,20 @@ use mir.Val.{Fits}
 use mir.Syntax.{w64}
 use Rattle.text_scan.specs.Choice.{_and_}
 use Rattle.text_scan.specs.Bytes.{text}
-use Rattle.text_scan.specs.declared.Found.the-variants.{At, Nothing}
 use Rattle.text_scan.proofs.Tests.{and-left, and-right}
 use Rattle.table_index.specs.declared.Lookup.the-variants.{Code, Name, KeyElsewhere}
 use Rattle.table_sets.specs.declared.Keys.{Keys}
-use Rattle.table_index.specs.Indexed.{keepsRow, Indexed, Room}
+use Rattle.table_index.specs.Indexed.{keepsRow, Serves}
 use Rattle.table_sets.specs.SetKeys.{keysOf}
 use Rattle.xml_values.specs.Attributes.{attributeOf}
 use Rattle.judge_paths.specs.declared.DocumentType.{DocumentType}
-use Rattle.judge_paths.specs.declared.DocumentType.the-variants.{Neither, Registration, Request}
 use Rattle.judge_draft.specs.Drafts.{Draft, draft, first, attribute}
-use Rattle.judge_draft.specs.Chosen.{the}
 use Rattle.judge_draft.proofs.Values.{attribute-read}
-use Rattle.judge_header.specs.declared.Header.{Header}
-use Rattle.judge_header.specs.Header.{registrationCode, requestCode, headerOf}
+use Rattle.judge_header.specs.Header.{requestCode}
 use Rattle.judge_answers.specs.declared.Places.{Places}
 use Rattle.judge_answers.specs.Answers.{typeCode, tablesAt}
-use Rattle.judge_answers.specs.Served.{CodesServed, NamesServed, KeysServed, Served}
-use Rattle.judge_lookup.specs.Serving.{isLarge, Fitting, toldAt}
+use Rattle.judge_answers.specs.Served.{partOf, CodesServed, NamesServed, KeysServed, Served}
+use Rattle.judge_lookup.specs.Serving.{isLarge, Fitting, Kept, toldAt}
 
 -- ---- when an index is worth it, by the tests of the code
 module _ (count n : ℕ) (p : Places) where
@@ -95,51 +91,35 @@ module _ (count : ℕ) (s : List ℕ) (p : Places) (x : List ℕ) (h : isLarge c
   pub keys-fit : Fitting s (p .nhistory) x
   keys-fit = fits (p .nhistory) (leb-true (p .nhistory) 65535 (and-left (leb (p .nhistory) 65535) (ltb 8388608 (count * length s)) last))
 
--- a run that fits has room
-pub room : (s : List ℕ) (n : ℕ) (x : List ℕ) → Fitting s n x → Room s n x
-room s n x f = record { long = f .0; few = f .1; small = omega (arith, f .2) }
-
--- ---- the setId
-module _ (d : Draft) (h : Header) (e : h ≡ headerOf d) where
-  pub no-set : h .set ≡ Nothing → 0 ≡ the (headerOf d .set)
-  no-set f = rw (← e, f)
-
-  pub the-set : (k : ℕ) → h .set ≡ At k → k ≡ the (headerOf d .set)
-  the-set k f = rw (← e, f)
-
 -- ---- the keys
-module _ (s rows roles : List ℕ) (t : DocumentType) (n f : ℕ) (e : f ≡ first (draft s rows roles t) n) (v : List ℕ) (g : v ≡ attributeOf s f (text "root")) (u : List ℕ) (p : Places) where
-  pub keys-filled : (c x : List ℕ) → Indexed KeyElsewhere (keepsRow KeyElsewhere c v) u (p .history) (p .nhistory) x → KeysServed c (attribute (draft s rows roles t) n (text "root")) u p x
-  keys-filled c x l = record { index = λ _. rw (← (attribute-read s rows roles t n f e (text "root") v g)) l }
+module _ (s notes : List ℕ) (n f : ℕ) (e : f ≡ first (draft s notes) n) (v : List ℕ) (g : v ≡ attributeOf s f (text "root")) (u : List ℕ) (p : Places) where
+  pub keys-filled : (c x : List ℕ) → Serves KeyElsewhere (keepsRow KeyElsewhere c v) u (p .history) (p .nhistory) x → KeysServed c (attribute (draft s notes) n (text "root")) u p x
+  keys-filled c x l = rw (← (attribute-read s notes n f e (text "root") v g)) l
 
-  pub keys-told : (k : Keys) → k ≡ keysOf requestCode v u (p .history) (p .nhistory) → record { codes = p .codes; ncodes = p .ncodes; names = p .names; nnames = p .nnames; history = p .history; nhistory = p .nhistory; set = n; first = k .first; several = k .several } ≡ toldAt (draft s rows roles t) u p n
+  pub keys-told : (t : DocumentType) (k : Keys) → k ≡ keysOf requestCode v u (p .history) (p .nhistory) → record { codes = p .codes; ncodes = p .ncodes; names = p .names; nnames = p .nnames; history = p .history; nhistory = p .nhistory; kind = t; set = n; first = k .first; several = k .several } ≡ toldAt (draft s notes) u p t n
   unfolding toldAt
-  keys-told k h = rw (h, attribute-read s rows roles t n f e (text "root") v g)
+  keys-told t k h = rw (h, attribute-read s notes n f e (text "root") v g)
 
-module _ (t : DocumentType) (set u : List ℕ) (p : Places) (x : List ℕ) where
-  pub keys-of-none : t ≡ Neither → KeysServed [] set u p x → KeysServed (typeCode t) set u p x
-  keys-of-none e l = rw e l
-
-  pub keys-of-registration : t ≡ Registration → KeysServed registrationCode set u p x → KeysServed (typeCode t) set u p x
-  keys-of-registration e l = rw e l
-
-  pub keys-of-request : t ≡ Request → KeysServed requestCode set u p x → KeysServed (typeCode t) set u p x
-  keys-of-request e l = rw e l
-
--- ---- of the one setId
-module _ (d : Draft) (n m : ℕ) (e : n ≡ m) (u : List ℕ) (p : Places) where
-  pub told-of : (r : Places) → r ≡ toldAt d u p n → r ≡ toldAt d u p m
-  told-of r f = rw (← e) f
-
-  pub keys-of-set : (c x : List ℕ) → KeysServed c (attribute d n (text "root")) u p x → KeysServed c (attribute d m (text "root")) u p x
-  keys-of-set c x l = rw (← e) l
+pub keys-of-type : (u t : DocumentType) → t ≡ u → (set f : List ℕ) (p : Places) (x : List ℕ) → KeysServed (typeCode u) set f p x → KeysServed (typeCode t) set f p x
+keys-of-type u t e set f p x l = rw e l
 
 -- ---- all of them
-module _ (s rows roles : List ℕ) (t : DocumentType) (u : List ℕ) (p : Places) (n : ℕ) (r : Places) (e : r ≡ toldAt (draft s rows roles t) u p n) where
+module _ (d : Draft) (u : List ℕ) (p : Places) (t : DocumentType) (n : ℕ) (r : Places) (e : r ≡ toldAt d u p t n) where
   pub same-tables : tablesAt u r ≡ tablesAt u p
   unfolding toldAt
   same-tables = rw e
 
-  pub all-served : (codes names keys : List ℕ) → CodesServed u p codes → NamesServed u p names → KeysServed (typeCode t) (attribute (draft s rows roles t) n (text "root")) u p keys → Served (draft s rows roles t) u r codes names keys
-  unfolding toldAt draft
-  all-served codes names keys a b k = rw e (record { code-list = a; register = b; elsewhere = k; others = record { told = λ _. refl } })
+  pub all-served : (x y : List ℕ) → CodesServed u p (partOf x 0) → NamesServed u p (partOf x 1) → Kept 2 x y → KeysServed (typeCode t) (attribute d n (text "root")) u p (partOf y 2) → Served d u r y
+  unfolding toldAt
+  all-served x y a b k l =
+      rw e
+      (record {
+        code-list = rw (k .part 0 (λ z. absurd (omega arith))) a;
+        register = rw (k .part 1 (λ z. absurd (omega arith))) b;
+        elsewhere = l;
+        others = record { told = λ _. refl };
+      })
+
+-- the code list stays served where the register is indexed
+pub codes-stay : (u : List ℕ) (p : Places) (x y : List ℕ) → CodesServed u p (partOf x 0) → Kept 1 x y → CodesServed u p (partOf y 0)
+codes-stay u p x y l k = rw (k .part 0 (λ z. absurd (omega arith))) l

@@ -1,28 +1,34 @@
 -- When the rows are indexed, and what is told of the history's keys.
 -- Assumes nothing.
-use Prim.Native.Nat.{ℕ, _+_, _*_, _<_, _≤_}
+use Prim.Native.Nat.{ℕ, zero, suc, _+_, _*_, _/_, _<_, _≤_}
 use mathlib.Core.Bool.{Bool}
 use mathlib.Core.List.{List, [], _∷_}
-use lib.Dec.{eqb, leb, ltb}
-use lib.ListN.{length}
-use Rattle.text_scan.specs.Choice.{pick, _and_, _or_, between}
+use mathlib.Core.Path.{_≡_}
+use lib.Dec.{leb, ltb}
+use lib.ListN.{length, getD}
+use Rattle.text_scan.specs.Choice.{pick, _and_}
 use Rattle.text_scan.specs.Bytes.{text}
 use Rattle.table_sets.specs.SetKeys.{keysOf}
-use Rattle.judge_paths.specs.declared.Role.the-variants.{Code, OrganisationId, OrganisationName, OperationCode}
-use Rattle.judge_paths.specs.Roles.{roleNumber}
+use Rattle.judge_paths.specs.declared.DocumentType.{DocumentType}
+use Rattle.judge_paths.specs.Roles.{Code, OrganisationId, OrganisationName, OperationCode}
+use Rattle.judge_paths.specs.Attributes.{isRole}
 use Rattle.judge_draft.specs.Drafts.{Draft, attribute}
 use Rattle.judge_header.specs.Header.{requestCode}
 use Rattle.judge_answers.specs.declared.Places.{Places}
+use Rattle.judge_answers.specs.Served.{partOf}
 
--- a role whose elements can ask for a row: codes, and the ids and names of organisations. Of all others only the id, the setId and the version ask,
--- once for a document each
-unfoldable pub asks : ℕ → Bool
-asks r = eqb r (roleNumber Code) or eqb r (roleNumber OperationCode) or between (roleNumber OrganisationId) (roleNumber OrganisationName) r
+-- the roles whose elements can ask for a row: codes, and the ids and names of organisations. Of all others only the id, the setId and the version
+-- ask, once for a document each
+abbrev pub askingRoles : List ℕ
+askingRoles = Code ∷ OperationCode ∷ OrganisationId ∷ OrganisationName ∷ []
 
--- how many elements can, by the numbers of their roles
-unfoldable pub asking : List ℕ → ℕ
-asking [] = 0
-asking (r ∷ rs) = pick (asks r) (1 + asking rs) (asking rs)
+-- how many elements can, of the elements n, n + 1, .., m of them
+unfoldable pub askingFrom : List ℕ → ℕ → ℕ → ℕ
+askingFrom notes n zero = 0
+askingFrom notes n (suc m) = pick (isRole (getD notes (4 * n) 0) askingRoles) (1 + askingFrom notes (n + 1) m) (askingFrom notes (n + 1) m)
+
+abbrev pub asking : List ℕ → ℕ
+asking notes = askingFrom notes 0 (length notes / 4)
 
 -- so many walks along the rows would take longer than an index, and the tables are of a size that is accepted
 unfoldable pub isLarge : ℕ → ℕ → Places → Bool
@@ -34,9 +40,13 @@ isLarge count n p =
 abbrev pub Fitting : List ℕ → ℕ → List ℕ → Type 0
 Fitting s count x = (count < length x) × (count ≤ 65535) × (length s ≤ 1048576)
 
--- the places, with the keys of the set id of element `set`
-unfoldable pub toldAt : Draft → List ℕ → Places → ℕ → Places
-toldAt d s p set =
+-- all parts but that of number i are left as they were
+pub record Kept (i : ℕ) (x y : List ℕ) : Type 0 where
+  pub part : (j : ℕ) → (j ≡ i → ⊥) → partOf y j ≡ partOf x j
+
+-- the places, with the type and the keys of the set id of element `set`
+unfoldable pub toldAt : Draft → List ℕ → Places → DocumentType → ℕ → Places
+toldAt d s p type set =
     record {
       codes = p .codes;
       ncodes = p .ncodes;
@@ -44,6 +54,7 @@ toldAt d s p set =
       nnames = p .nnames;
       history = p .history;
       nhistory = p .nhistory;
+      kind = type;
       set = set;
       first = keysOf requestCode (attribute d set (text "root")) s (p .history) (p .nhistory) .first;
       several = keysOf requestCode (attribute d set (text "root")) s (p .history) (p .nhistory) .several;

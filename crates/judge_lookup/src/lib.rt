@@ -1,177 +1,206 @@
-// The runs in which the rows of a tables file are looked up, filled for one draft. What is left in them is for `judge_answers::is_broken` alone.
+// The run in which the rows of a tables file are looked up, filled for one draft. What is left in it is for `judge_answers::is_broken` alone.
 ghost use mathlib.Core.Path.{_≡_};
+ghost use mathlib.Core.Bool.{true};
+ghost use Prim.Native.Nat.{_*_, _<_, _≤_};
+ghost use lib.ListN.{length};
 ghost use Rattle.text_scan.specs.Bytes.{text};
+ghost use Rattle.table_index.specs.Indexed.{keepsRow, Serves};
+ghost use Rattle.judge_paths.specs.Attributes.{isRole};
 ghost use Rattle.judge_draft.specs.Drafts.{draft, attribute};
-ghost use Rattle.judge_draft.specs.Chosen.{the};
-ghost use Rattle.judge_header.specs.Header.{headerOf};
 ghost use Rattle.judge_answers.specs.Answers.{typeCode, tablesAt};
-ghost use Rattle.judge_answers.specs.Served.{CodesServed, NamesServed, KeysServed, Served};
-ghost use Rattle.judge_lookup.specs.Serving.{asks, asking, isLarge, Fitting, toldAt};
+ghost use Rattle.judge_answers.specs.Served.{room, partOf, CodesServed, NamesServed, KeysServed, Served};
+ghost use Rattle.judge_lookup.specs.Serving.{askingRoles, asking, isLarge, Fitting, Kept, toldAt};
 use judge_answers::Places;
+use judge_answers::SIZE;
 use judge_draft::first_byte;
 use judge_paths::DocumentType;
+use judge_paths::role;
 use table_index::Lookup;
-use text_scan::Found;
+use xml_reader::Reader;
+
+// The most rows of a section.
+const ROWS: usize = 65535;
 
 // Whether the elements of a role can ask for a row.
-fn is_asking(role: u8) -> bool
-    ensures { λ r. ⌜ r ≡ asks role ⌝ }
+fn is_asking(number: u32) -> bool
+    ensures { λ r. ⌜ r ≡ isRole number askingRoles ⌝ }
 {
-    if role < 22 {
-        return role == 4;
-    }
-    if role < 24 {
+    if number == role::CODE {
         return true;
     }
-    role == 36
+    if number == role::OPERATION_CODE {
+        return true;
+    }
+    if number == role::ORGANISATION_ID {
+        return true;
+    }
+    number == role::ORGANISATION_NAME
 }
 
-// How many elements can ask for a row, by the numbers of their roles.
-pub fn how_many_ask(roles: &[u8]) -> usize
-    ensures { λ r. ⌜ r ≡ asking (now (roles .entry)) ⌝ }
+// How many elements can ask for a row.
+pub fn how_many_ask(notes: &[u32]) -> usize
+    ensures { λ r. ⌜ r ≡ asking (now (notes .entry)) ⌝ }
 {
+    let count = notes.len() / 4;
     let mut found = 0;
-    let mut i = 0;
-    while i < roles.len() {
-        if is_asking(roles[i]) {
+    let mut n = 0;
+    while n < count {
+        if is_asking(notes[4 * n]) {
             found += 1;
-            i += 1;
+            n += 1;
             continue;
         }
-        i += 1;
+        n += 1;
     }
     found
 }
 
-// Whether so many elements that ask are worth an index of these tables, and the runs are long enough for it: for few of them, walks along all
+// Whether so many elements that ask are worth an index of these tables, and the run is long enough for it: for few of them, walks along all
 // rows cost less.
 pub fn is_large(count: usize, length: usize, places: Places) -> bool
     ensures { λ r. ⌜ r ≡ isLarge count length places ⌝ }
 {
-    if 16384 < count {
+    if Reader::ELEMENTS < count {
         return false;
     }
-    if 1048576 < length {
+    if Reader::TABLES < length {
         return false;
     }
-    if 65535 < places.ncodes {
+    if ROWS < places.ncodes {
         return false;
     }
-    if 65535 < places.nnames {
+    if ROWS < places.nnames {
         return false;
     }
-    if 65535 < places.nhistory {
+    if ROWS < places.nhistory {
         return false;
     }
     8388608 < count * length
 }
 
-// The one setId of a draft, or the root.
-fn set_of(document: &[u8], elements: &[u32], roles: &[u8], kind: DocumentType) -> usize
-    ensures { λ r. ⌜ r ≡ the (headerOf (draft (now (document .entry)) (now (elements .entry)) (now (roles .entry)) kind) .set) ⌝ }
+// Indexes the rows of a section for a question in the run's part of number i, and leaves the other parts as they are.
+fn fill_part(
+    q: Lookup,
+    tables: &[u8],
+    from: usize,
+    count: usize,
+    a: &[u8],
+    c: &[u8],
+    index: &mut [u32],
+    i: usize,
+)
+    requires { ⌜ (i < 3) × (3 * room ≤ length (now index)) × Fitting (now tables) count (now index) ⌝ }
+    ensures { λ _. ⌜ Serves q (keepsRow q (now (a .entry)) (now (c .entry))) (now (tables .entry)) from count (partOf (now (index .exit)) i) × Kept i (now (index .entry)) (now (index .exit)) ⌝ }
 {
-    let header = judge_header::header_of(document, elements, roles, kind);
-    let set = header.set;
-    match set {
-        Found::Nothing => 0,
-        Found::At(k) => k,
-    }
+    let start = i * SIZE;
+    let end = start + SIZE;
+    table_index::fill(q, tables, from, count, a, c, &mut index[start..end]);
+}
+
+// Indexes the code list and the register.
+fn serve_rows(tables: &[u8], places: Places, index: &mut [u32])
+    requires { ⌜ (3 * room ≤ length (now index)) × Fitting (now tables) (places .ncodes) (now index) × Fitting (now tables) (places .nnames) (now index) ⌝ }
+    ensures { λ _. ⌜ CodesServed (now (tables .entry)) places (partOf (now (index .exit)) 0) × NamesServed (now (tables .entry)) places (partOf (now (index .exit)) 1) ⌝ }
+{
+    fill_part(
+        Lookup::Code,
+        tables,
+        places.codes,
+        places.ncodes,
+        b"",
+        b"",
+        index,
+        0,
+    );
+    fill_part(
+        Lookup::Name,
+        tables,
+        places.names,
+        places.nnames,
+        b"",
+        b"",
+        index,
+        1,
+    );
 }
 
 // Indexes the keys of the history's rows of this type under another set id than that of element `set`.
 fn fill_keys_of(
     document: &[u8],
-    elements: &[u32],
-    roles: &[u8],
-    kind: DocumentType,
+    notes: &[u32],
     tables: &[u8],
     places: Places,
     code: &[u8],
     set: usize,
-    keys: &mut [u32],
+    index: &mut [u32],
 )
-    requires { ⌜ Fitting (now tables) (places .nhistory) (now keys) ⌝ }
-    ensures { λ _. ⌜ KeysServed (now (code .entry)) (attribute (draft (now (document .entry)) (now (elements .entry)) (now (roles .entry)) kind) set (text "root")) (now (tables .entry)) places (now (keys .exit)) ⌝ }
+    requires { ⌜ (3 * room ≤ length (now index)) × Fitting (now tables) (places .nhistory) (now index) ⌝ }
+    ensures { λ _. ⌜ KeysServed (now (code .entry)) (attribute (draft (now (document .entry)) (now (notes .entry))) set (text "root")) (now (tables .entry)) places (partOf (now (index .exit)) 2) × Kept 2 (now (index .entry)) (now (index .exit)) ⌝ }
 {
     let mut room = [0u8; 4096];
-    let at = first_byte(document, elements, roles, kind, set);
+    let at = first_byte(document, notes, set);
     let id = xml_values::attribute(document, at, b"root", &mut room);
-    table_index::fill(
+    fill_part(
         Lookup::KeyElsewhere,
         tables,
         places.history,
         places.nhistory,
         code,
         id,
-        keys,
+        index,
+        2,
     );
 }
 
-// The same of the document's own type.
+// The same of a type.
 fn fill_keys(
     document: &[u8],
-    elements: &[u32],
-    roles: &[u8],
-    kind: DocumentType,
+    notes: &[u32],
     tables: &[u8],
     places: Places,
+    kind: DocumentType,
     set: usize,
-    keys: &mut [u32],
+    index: &mut [u32],
 )
-    requires { ⌜ Fitting (now tables) (places .nhistory) (now keys) ⌝ }
-    ensures { λ _. ⌜ KeysServed (typeCode kind) (attribute (draft (now (document .entry)) (now (elements .entry)) (now (roles .entry)) kind) set (text "root")) (now (tables .entry)) places (now (keys .exit)) ⌝ }
+    requires { ⌜ (3 * room ≤ length (now index)) × Fitting (now tables) (places .nhistory) (now index) ⌝ }
+    ensures { λ _. ⌜ KeysServed (typeCode kind) (attribute (draft (now (document .entry)) (now (notes .entry))) set (text "root")) (now (tables .entry)) places (partOf (now (index .exit)) 2) × Kept 2 (now (index .entry)) (now (index .exit)) ⌝ }
 {
     match kind {
-        DocumentType::Neither => fill_keys_of(
-            document,
-            elements,
-            roles,
-            kind,
-            tables,
-            places,
-            b"",
-            set,
-            keys,
-        ),
+        DocumentType::Neither => fill_keys_of(document, notes, tables, places, b"", set, index),
         DocumentType::Registration => fill_keys_of(
             document,
-            elements,
-            roles,
-            kind,
+            notes,
             tables,
             places,
             b"51725-0",
             set,
-            keys,
+            index,
         ),
         DocumentType::Request => fill_keys_of(
             document,
-            elements,
-            roles,
-            kind,
+            notes,
             tables,
             places,
             b"51726-8",
             set,
-            keys,
+            index,
         ),
     }
 }
 
-// The places, with what the history tells of the keys of the set id of element `set`.
+// The places, with the type, and with what the history tells of the keys of the set id of element `set`.
 fn told(
     document: &[u8],
-    elements: &[u32],
-    roles: &[u8],
-    kind: DocumentType,
+    notes: &[u32],
     tables: &[u8],
     places: Places,
+    kind: DocumentType,
     set: usize,
 ) -> Places
-    ensures { λ r. ⌜ r ≡ toldAt (draft (now (document .entry)) (now (elements .entry)) (now (roles .entry)) kind) (now (tables .entry)) places set ⌝ }
+    ensures { λ r. ⌜ r ≡ toldAt (draft (now (document .entry)) (now (notes .entry))) (now (tables .entry)) places kind set ⌝ }
 {
     let mut room = [0u8; 4096];
-    let at = first_byte(document, elements, roles, kind, set);
+    let at = first_byte(document, notes, set);
     let id = xml_values::attribute(document, at, b"root", &mut room);
     let keys = table_sets::keys_of(tables, places.history, places.nhistory, b"51726-8", id);
     Places {
@@ -181,70 +210,27 @@ fn told(
         nnames: places.nnames,
         history: places.history,
         nhistory: places.nhistory,
-        set: set,
+        kind,
+        set,
         first: keys.first,
         several: keys.several,
     }
 }
 
-// Indexes the code list and the register.
-fn serve_rows(tables: &[u8], places: Places, codes: &mut [u32], names: &mut [u32])
-    requires { ⌜ Fitting (now tables) (places .ncodes) (now codes) × Fitting (now tables) (places .nnames) (now names) ⌝ }
-    ensures { λ _. ⌜ CodesServed (now (tables .entry)) places (now (codes .exit)) × NamesServed (now (tables .entry)) places (now (names .exit)) ⌝ }
-{
-    table_index::fill(
-        Lookup::Code,
-        tables,
-        places.codes,
-        places.ncodes,
-        b"",
-        b"",
-        codes,
-    );
-    table_index::fill(
-        Lookup::Name,
-        tables,
-        places.names,
-        places.nnames,
-        b"",
-        b"",
-        names,
-    );
-}
-
-// Indexes the keys for the document's set id, and answers the places with what is told of them.
-fn serve_keys(
-    document: &[u8],
-    elements: &[u32],
-    roles: &[u8],
-    kind: DocumentType,
-    tables: &[u8],
-    places: Places,
-    keys: &mut [u32],
-) -> Places
-    requires { ⌜ Fitting (now tables) (places .nhistory) (now keys) ⌝ }
-    ensures { λ r. ⌜ (r ≡ toldAt (draft (now (document .entry)) (now (elements .entry)) (now (roles .entry)) kind) (now (tables .entry)) places (the (headerOf (draft (now (document .entry)) (now (elements .entry)) (now (roles .entry)) kind) .set))) × KeysServed (typeCode kind) (attribute (draft (now (document .entry)) (now (elements .entry)) (now (roles .entry)) kind) (the (headerOf (draft (now (document .entry)) (now (elements .entry)) (now (roles .entry)) kind) .set)) (text "root")) (now (tables .entry)) places (now (keys .exit)) ⌝ }
-{
-    let set = set_of(document, elements, roles, kind);
-    fill_keys(document, elements, roles, kind, tables, places, set, keys);
-    told(document, elements, roles, kind, tables, places, set)
-}
-
-// Fills the three runs, and answers the places with what is told of the keys.
+// Fills the run for a type and the setId of number `set`, and answers the places with what is told of its keys.
 pub fn serve(
     document: &[u8],
-    elements: &[u32],
-    roles: &[u8],
-    kind: DocumentType,
+    notes: &[u32],
     tables: &[u8],
     places: Places,
-    codes: &mut [u32],
-    names: &mut [u32],
-    keys: &mut [u32],
+    kind: DocumentType,
+    set: usize,
+    index: &mut [u32],
 ) -> Places
-    requires { ⌜ Fitting (now tables) (places .ncodes) (now codes) × Fitting (now tables) (places .nnames) (now names) × Fitting (now tables) (places .nhistory) (now keys) ⌝ }
-    ensures { λ r. ⌜ (tablesAt (now (tables .entry)) r ≡ tablesAt (now (tables .entry)) places) × Served (draft (now (document .entry)) (now (elements .entry)) (now (roles .entry)) kind) (now (tables .entry)) r (now (codes .exit)) (now (names .exit)) (now (keys .exit)) ⌝ }
+    requires { ⌜ (3 * room ≤ length (now index)) × Fitting (now tables) (places .ncodes) (now index) × Fitting (now tables) (places .nnames) (now index) × Fitting (now tables) (places .nhistory) (now index) ⌝ }
+    ensures { λ r. ⌜ (tablesAt (now (tables .entry)) r ≡ tablesAt (now (tables .entry)) places) × Served (draft (now (document .entry)) (now (notes .entry))) (now (tables .entry)) r (now (index .exit)) ⌝ }
 {
-    serve_rows(tables, places, codes, names);
-    serve_keys(document, elements, roles, kind, tables, places, keys)
+    serve_rows(tables, places, index);
+    fill_keys(document, notes, tables, places, kind, set, index);
+    told(document, notes, tables, places, kind, set)
 }

@@ -18,11 +18,12 @@ use Rattle.list_findings.specs.Findings.{lastProcedure, width, flat, filled, st
 use Rattle.list_findings.proofs.Filling.{filled-sets, one-stored, length-stored}
 use Rattle.list_findings.proofs.Records.{length-flat}
 use Rattle.list_writer.specs.Listed.{listAfter, countAfter}
-use Rattle.judge_paths.specs.declared.DocumentType.{DocumentType}
-use Rattle.judge_draft.specs.Drafts.{Draft, draft}
-use Rattle.judge_marks.specs.Listed.{finding}
-use Rattle.judge_marks.specs.Marks.{pushed, ones, marked, markedFrom}
-use Rattle.judge_marks.proofs.Digits.{no-ones, none-marked}
+use Rattle.judge_draft.specs.Drafts.{Draft, draft, role}
+use Rattle.judge_procedures.specs.Procedures.{askedAt}
+use Rattle.judge_findings.specs.Listed.{finding}
+use Rattle.judge_marks.specs.Marks.{pushed, digitsOf, ones, most, marked, askedRow, markedAt, markedFrom}
+use Rattle.judge_marks.proofs.Told.{no-ones, nothing-marked}
+use Rattle.judge_marks.proofs.Table.{padded-length}
 
 -- ---- a digit more
 pub push-one : (m : ℕ) (b : Bool) → m < 4611686018427387904 → b ≡ true → 2 * m + 1 ≡ pushed m b
@@ -36,6 +37,10 @@ push-zero m b h e = rw (lt-ltb m 4611686018427387904 h, e) (omega arith)
 pub push-none : (m : ℕ) (b : Bool) → 4611686018427387904 ≤ m → 0 ≡ pushed m b
 unfolding pushed
 push-none m b h = rw (le-ltb m 4611686018427387904 h)
+
+pub seven : (a b c d e f g : Bool) (r x1 x2 x3 x4 x5 x6 : ℕ) → r ≡ pushed x1 a → x1 ≡ pushed x2 b → x2 ≡ pushed x3 c → x3 ≡ pushed x4 d → x4 ≡ pushed x5 e → x5 ≡ pushed x6 f → x6 ≡ pushed 0 g → r ≡ digitsOf (a ∷ b ∷ c ∷ d ∷ e ∷ f ∷ g ∷ [])
+unfolding digitsOf
+seven a b c d e f g r x1 x2 x3 x4 x5 x6 p1 p2 p3 p4 p5 p6 p7 = rw (p1, p2, p3, p4, p5, p6, p7)
 
 -- ---- counting
 ones-here : (k m : ℕ) → 0 < k → ones k m ≡ m % 2 + ones (k - 1) (m / 2)
@@ -51,18 +56,18 @@ ones-over zero m g = refl
 ones-over (suc k) m g = absurd (omega arith)
 
 pub record Counted (mark m left found : ℕ) : Type 0 where
-  pub sum : ones lastProcedure mark ≡ found + ones left m
-  pub few : found + left ≤ lastProcedure
+  pub sum : ones most mark ≡ found + ones left m
+  pub few : found + left ≤ most
 
-pub counted-start : (mark : ℕ) → Counted mark mark 38 0
+pub counted-start : (mark : ℕ) → Counted mark mark most 0
 counted-start mark = record { sum = omega arith; few = omega arith }
 
 module _ (mark m left found : ℕ) (l : Counted mark m left found) where
-  pub counted-over : left ≤ 0 → found ≡ ones lastProcedure mark
+  pub counted-over : left ≤ 0 → found ≡ ones most mark
   counted-over h = omega (arith, l .sum, ones-over left m h)
 
   module _ (h : 0 < left) where
-    pub counted-none : m ≡ 0 → found ≡ ones lastProcedure mark
+    pub counted-none : m ≡ 0 → found ≡ ones most mark
     counted-none e = omega (arith, l .sum, ap (ones left) e, no-ones left)
 
     pub counted-fits : Fits w64 (found + 1)
@@ -77,68 +82,49 @@ module _ (mark m left found : ℕ) (l : Counted mark m left found) where
         record { sum = omega (arith, l .sum, ones-here left m h); few = omega (arith, l .few) }
 
 -- ---- the record
-module _ (s rows roles : List ℕ) (t : DocumentType) (n p f a : ℕ) where
-  pub record-is : f ≡ getD rows (4 * n + 2) 0 → a ≡ getD rows (4 * n + 3) 0 → record { procedure = p; first = f; after = a } ≡ finding (draft s rows roles t) n p
+module _ (s notes : List ℕ) (n p f a : ℕ) where
+  pub record-is : f ≡ getD notes (4 * n + 2) 0 → a ≡ getD notes (4 * n + 3) 0 → record { procedure = p; first = f; after = a } ≡ finding (draft s notes) n p
   unfolding draft
   record-is e g = rw (e, g)
 
 -- ---- the records of one mark
-module _ (d : Draft) (n : ℕ) where
-  marked-one : (k p m : ℕ) → 0 < k → m % 2 ≡ 1 → marked d n p k m ≡ finding d n p ∷ marked d n (p + 1) (k - 1) (m / 2)
-  unfolding marked
-  marked-one zero p m h e = absurd (omega arith)
-  marked-one (suc k) p m h e =
-      let f : suc k - 1 ≡ k = omega arith in
-      rw (eq-eqb (m % 2) 1 e, f)
+module _ (d : Draft) (n : ℕ) (row : List ℕ) where
+  module _ (i m : ℕ) (h : i < length row) where
+    marked-one : m % 2 ≡ 1 → marked d n (drop i row) m ≡ finding d n (getD row i 0) ∷ marked d n (drop (i + 1) row) (m / 2)
+    unfolding marked
+    marked-one e = rw (drop-here row i h, eq-eqb (m % 2) 1 e)
 
-  marked-no : (k p m : ℕ) → 0 < k → (m % 2 ≡ 1 → ⊥) → marked d n p k m ≡ marked d n (p + 1) (k - 1) (m / 2)
-  unfolding marked
-  marked-no zero p m h e = absurd (omega arith)
-  marked-no (suc k) p m h e =
-      let f : suc k - 1 ≡ k = omega arith in
-      rw (ne-eqb (m % 2) 1 e, f)
+    marked-no : (m % 2 ≡ 1 → ⊥) → marked d n (drop i row) m ≡ marked d n (drop (i + 1) row) (m / 2)
+    unfolding marked
+    marked-no e = rw (drop-here row i h, ne-eqb (m % 2) 1 e)
 
-  marked-over : (k p m : ℕ) → k ≤ 0 → marked d n p k m ≡ []
+  marked-over : (i m : ℕ) → length row ≤ i → marked d n (drop i row) m ≡ []
   unfolding marked
-  marked-over zero p m h = refl
-  marked-over (suc k) p m h = absurd (omega arith)
+  marked-over i m h = rw (drop-of-length-le row h)
 
-  -- those from procedure p on are still to be written, behind k records
-  pub record Left (mark : ℕ) (before : List ℕ) (count : ℕ) (list : List ℕ) (m p k : ℕ) : Type 0 where
-    pub rest : sets before (count * width) (flat (marked d n 1 lastProcedure mark)) ≡ sets list (k * width) (flat (marked d n p (39 - p) m))
-    pub many : count + length (marked d n 1 lastProcedure mark) ≡ k + length (marked d n p (39 - p) m)
-    pub room : k + length (marked d n p (39 - p) m) ≤ length list / width
+  -- those from place i on are still to be written, behind k records
+  pub record LeftOf (mark : ℕ) (before : List ℕ) (count : ℕ) (list : List ℕ) (m i k : ℕ) : Type 0 where
+    pub rest : sets before (count * width) (flat (marked d n row mark)) ≡ sets list (k * width) (flat (marked d n (drop i row) m))
+    pub many : count + length (marked d n row mark) ≡ k + length (marked d n (drop i row) m)
+    pub room : k + length (marked d n (drop i row) m) ≤ length list / width
     pub long : length list ≡ length before
-
-  pub left-start : (mark : ℕ) (list : List ℕ) (count : ℕ) → count + length (marked d n 1 lastProcedure mark) ≤ length list / width → Left mark list count list mark 1 count
-  left-start mark list count h = record { rest = refl; many = refl; room = h; long = refl }
 
   -- nothing is left to store
   nothing-left : (list : List ℕ) (k : ℕ) (rs : List Finding) → rs ≡ [] → sets list k (flat rs) ≡ list
   unfolding flat
   nothing-left list k rs e = rw e
 
-  module _ (mark : ℕ) (before : List ℕ) (count : ℕ) (list : List ℕ) (m p k : ℕ) (l : Left mark before count list m p k) where
-    pub left-none-count : m ≡ 0 → k ≡ count + length (marked d n 1 lastProcedure mark)
-    left-none-count e = omega (arith, l .many, ap (λ x. length (marked d n p (39 - p) x)) e, ap length (none-marked d n (39 - p) p))
+  module _ (mark : ℕ) (before : List ℕ) (count : ℕ) (list : List ℕ) (m i k : ℕ) (l : LeftOf mark before count list m i k) where
+    ends-count : marked d n (drop i row) m ≡ [] → k ≡ count + length (marked d n row mark)
+    ends-count e = omega (arith, l .many, ap length e)
 
-    pub left-none-list : m ≡ 0 → list ≡ sets before (count * width) (flat (marked d n 1 lastProcedure mark))
-    left-none-list e =
-        sym (l .rest ∙ nothing-left list (k * width) (marked d n p (39 - p) m) (ap (marked d n p (39 - p)) e ∙ none-marked d n (39 - p) p))
+    ends-list : marked d n (drop i row) m ≡ [] → list ≡ sets before (count * width) (flat (marked d n row mark))
+    ends-list e = sym (l .rest ∙ nothing-left list (k * width) (marked d n (drop i row) m) e)
 
-    pub left-over-count : 39 ≤ p → k ≡ count + length (marked d n 1 lastProcedure mark)
-    left-over-count h = omega (arith, l .many, ap length (marked-over (39 - p) p m (omega arith)))
-
-    pub left-over-list : 39 ≤ p → list ≡ sets before (count * width) (flat (marked d n 1 lastProcedure mark))
-    left-over-list h = sym (l .rest ∙ nothing-left list (k * width) (marked d n p (39 - p) m) (marked-over (39 - p) p m (omega arith)))
-
-    module _ (h : p < 39) where
-      fewer : 39 - p - 1 ≡ 39 - (p + 1)
-      fewer = omega arith
-
-      pub left-no : (m % 2 ≡ 1 → ⊥) → Left mark before count list (m / 2) (p + 1) k
-      left-no e =
-          let no : marked d n p (39 - p) m ≡ marked d n (p + 1) (39 - (p + 1)) (m / 2) = rw fewer at (marked-no (39 - p) p m (omega arith) e) in
+    module _ (h : i < length row) where
+      goes-no : (m % 2 ≡ 1 → ⊥) → LeftOf mark before count list (m / 2) (i + 1) k
+      goes-no e =
+          let no : marked d n (drop i row) m ≡ marked d n (drop (i + 1) row) (m / 2) = marked-no i m h e in
           record {
             rest = l .rest ∙ ap (λ rs. sets list (k * width) (flat rs)) no;
             many = omega (arith, l .many, ap length no);
@@ -147,25 +133,63 @@ module _ (d : Draft) (n : ℕ) where
           }
 
       module _ (e : m % 2 ≡ 1) where
-        one : marked d n p (39 - p) m ≡ finding d n p ∷ marked d n (p + 1) (39 - (p + 1)) (m / 2)
-        one = rw fewer at (marked-one (39 - p) p m (omega arith) e)
+        one : marked d n (drop i row) m ≡ finding d n (getD row i 0) ∷ marked d n (drop (i + 1) row) (m / 2)
+        one = marked-one i m h e
 
         fits : k < length list / width
         fits = omega (arith, l .room, ap length one)
 
-        pub left-one : (after : List ℕ) (next : ℕ) (r : Finding) → r ≡ finding d n p → next ≡ countAfter list k → after ≡ listAfter list k r → Left mark before count after (m / 2) (p + 1) next
+        goes-one : (after : List ℕ) (next : ℕ) (r : Finding) → r ≡ finding d n (getD row i 0) → next ≡ countAfter list k → after ≡ listAfter list k r → LeftOf mark before count after (m / 2) (i + 1) next
         unfolding countAfter listAfter
-        left-one after next r f g i =
+        goes-one after next r f g j =
             let full = lt-leb (length list / width) k fits in
             let c : next ≡ k + 1 = g ∙ rw full in
-            let s : after ≡ stored list (k * width) (finding d n p) = i ∙ rw (full, f) in
+            let s : after ≡ stored list (k * width) (finding d n (getD row i 0)) = j ∙ rw (full, f) in
             let w : k * width + width ≡ (k + 1) * width = omega arith in
             rw (c, s) record {
-              rest = l .rest ∙ (ap (λ rs. sets list (k * width) (flat rs)) one ∙ (one-stored list (k * width) (finding d n p) (marked d n (p + 1) (39 - (p + 1)) (m / 2)) ∙ rw w));
+              rest = l .rest ∙ (ap (λ rs. sets list (k * width) (flat rs)) one ∙ (one-stored list (k * width) (finding d n (getD row i 0)) (marked d n (drop (i + 1) row) (m / 2)) ∙ rw w));
               many = omega (arith, l .many, ap length one);
-              room = omega (arith, l .room, ap length one, length-stored list (k * width) (finding d n p));
-              long = length-stored list (k * width) (finding d n p) ∙ l .long;
+              room = omega (arith, l .room, ap length one, length-stored list (k * width) (finding d n (getD row i 0)));
+              long = length-stored list (k * width) (finding d n (getD row i 0)) ∙ l .long;
             }
+
+-- the same of the row of an element's role
+module _ (d : Draft) (n : ℕ) where
+  pub record Left (mark : ℕ) (before : List ℕ) (count : ℕ) (list : List ℕ) (m i k : ℕ) : Type 0 where
+    pub left : LeftOf d n (askedRow (role d n)) mark before count list m i k
+
+  row-length : length (askedRow (role d n)) ≡ most
+  row-length = padded-length most (askedAt (role d n))
+
+  pub left-start : (mark : ℕ) (list : List ℕ) (count : ℕ) → count + length (markedAt d n mark) ≤ length list / width → Left mark list count list mark 0 count
+  unfolding markedAt
+  left-start mark list count h = record { left = record { rest = refl; many = refl; room = h; long = refl } }
+
+  module _ (mark : ℕ) (before : List ℕ) (count : ℕ) (list : List ℕ) (m i k : ℕ) (l : Left mark before count list m i k) where
+    pub left-none-count : m ≡ 0 → k ≡ count + length (markedAt d n mark)
+    unfolding markedAt
+    left-none-count e = ends-count d n _ mark before count list m i k (l .left) (nothing-marked d n (drop i (askedRow (role d n))) m e)
+
+    pub left-none-list : m ≡ 0 → list ≡ sets before (count * width) (flat (markedAt d n mark))
+    unfolding markedAt
+    left-none-list e = ends-list d n _ mark before count list m i k (l .left) (nothing-marked d n (drop i (askedRow (role d n))) m e)
+
+    pub left-over-count : most ≤ i → k ≡ count + length (markedAt d n mark)
+    unfolding markedAt
+    left-over-count h = ends-count d n _ mark before count list m i k (l .left) (marked-over d n _ i m (omega (arith, row-length)))
+
+    pub left-over-list : most ≤ i → list ≡ sets before (count * width) (flat (markedAt d n mark))
+    unfolding markedAt
+    left-over-list h = ends-list d n _ mark before count list m i k (l .left) (marked-over d n _ i m (omega (arith, row-length)))
+
+    module _ (h : i < most) where
+      pub left-no : (m % 2 ≡ 1 → ⊥) → Left mark before count list (m / 2) (i + 1) k
+      left-no e = record { left = goes-no d n _ mark before count list m i k (l .left) (omega (arith, row-length)) e }
+
+      pub left-one : m % 2 ≡ 1 → (own : ℕ) → own ≡ role d n → (p : ℕ) → p ≡ getD (askedRow own) i 0 → (after : List ℕ) (next : ℕ) (r : Finding) → r ≡ finding d n p → next ≡ countAfter list k → after ≡ listAfter list k r → Left mark before count after (m / 2) (i + 1) next
+      left-one e own o p q after next r f g j =
+          let s : p ≡ getD (askedRow (role d n)) i 0 = q ∙ rw o in
+          record { left = goes-one d n _ mark before count list m i k (l .left) (omega (arith, row-length)) e after next r (f ∙ rw s) g j }
 
 -- ---- the records of all marks
 flat-joined : (xs ys : List Finding) → flat (xs ++ ys) ≡ flat xs ++ flat ys
@@ -197,19 +221,19 @@ module _ (d : Draft) (marks before : List ℕ) where
     towrite-over h g = sym (sym (filled-sets (markedFrom d 0 marks) before g) ∙ (l .rest ∙ rw (drop-of-length-le marks h)))
 
     module _ (h : n < length marks) where
-      next : markedFrom d n (drop n marks) ≡ marked d n 1 lastProcedure (getD marks n 0) ++ markedFrom d (n + 1) (drop (n + 1) marks)
+      next : markedFrom d n (drop n marks) ≡ markedAt d n (getD marks n 0) ++ markedFrom d (n + 1) (drop (n + 1) marks)
       unfolding markedFrom
       next = rw (drop-here marks n h)
 
-      many : length (markedFrom d n (drop n marks)) ≡ length (marked d n 1 lastProcedure (getD marks n 0)) + length (markedFrom d (n + 1) (drop (n + 1) marks))
-      many = ap length next ∙ length-append (marked d n 1 lastProcedure (getD marks n 0)) (markedFrom d (n + 1) (drop (n + 1) marks))
+      many : length (markedFrom d n (drop n marks)) ≡ length (markedAt d n (getD marks n 0)) + length (markedFrom d (n + 1) (drop (n + 1) marks))
+      many = ap length next ∙ length-append (markedAt d n (getD marks n 0)) (markedFrom d (n + 1) (drop (n + 1) marks))
 
-      pub towrite-room : count + length (marked d n 1 lastProcedure (getD marks n 0)) ≤ length list / width
+      pub towrite-room : count + length (markedAt d n (getD marks n 0)) ≤ length list / width
       towrite-room = omega (arith, l .room, many)
 
-      pub towrite-next : (after : List ℕ) (c : ℕ) → c ≡ count + length (marked d n 1 lastProcedure (getD marks n 0)) → after ≡ sets list (count * width) (flat (marked d n 1 lastProcedure (getD marks n 0))) → ToWrite after (n + 1) c
+      pub towrite-next : (after : List ℕ) (c : ℕ) → c ≡ count + length (markedAt d n (getD marks n 0)) → after ≡ sets list (count * width) (flat (markedAt d n (getD marks n 0))) → ToWrite after (n + 1) c
       towrite-next after c e f =
-          let rs = marked d n 1 lastProcedure (getD marks n 0) in
+          let rs = markedAt d n (getD marks n 0) in
           let w : c * width ≡ count * width + length (flat rs) = omega (arith, e, length-flat rs) in
           record {
             rest = l .rest ∙ (ap (λ x. sets list (count * width) (flat x)) next ∙ (ap (sets list (count * width)) (flat-joined rs (markedFrom d (n + 1) (drop (n + 1) marks))) ∙ (sets-joined (flat rs) (flat (markedFrom d (n + 1) (drop (n + 1) marks))) list (count * width) ∙ rw (← f, ← w))));

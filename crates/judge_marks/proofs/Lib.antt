@@ -1,7 +1,3 @@
-pub mod Together
-pub mod Listed
-pub mod Digits
+pub mod Table
+pub mod Told
 pub mod Appended
-pub mod Grouped
-pub mod Filled
-pub mod Skipped

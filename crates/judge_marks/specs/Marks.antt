@@ -1,4 +1,5 @@
--- The mark of an element: the procedures that are broken there, as the binary digits of a number, the first procedure's lowest.
+-- The mark of an element: the procedures that are broken there, as the binary digits of a number, of those that can be found at its role, the first
+-- one's lowest. For the code's own functions: no contract of a check cites it.
 -- Assumes nothing.
 use Prim.Native.Nat.{ℕ, zero, suc, _+_, _*_, _/_, _%_}
 use mathlib.Core.Bool.{Bool, true, false}
@@ -6,9 +7,9 @@ use mathlib.Core.List.{List, [], _∷_, _++_}
 use lib.Dec.{ltb, eqb}
 use Rattle.text_scan.specs.Choice.{pick}
 use Rattle.list_findings.specs.declared.Finding.{Finding}
-use Rattle.list_findings.specs.Findings.{lastProcedure}
-use Rattle.judge_draft.specs.Drafts.{Draft}
-use Rattle.judge_marks.specs.Listed.{finding}
+use Rattle.judge_draft.specs.Drafts.{Draft, role}
+use Rattle.judge_procedures.specs.Procedures.{askedAt}
+use Rattle.judge_findings.specs.Listed.{finding}
 
 abbrev pub digit : Bool → ℕ
 digit true = 1
@@ -18,23 +19,23 @@ digit false = 0
 unfoldable pub pushed : ℕ → Bool → ℕ
 pushed m b = pick (ltb m 4611686018427387904) (2 * m + digit b) 0
 
--- so many digits more, all 0
-unfoldable pub skipped : ℕ → ℕ → ℕ
-skipped zero m = m
-skipped (suc k) m = skipped k (pushed m false)
+-- the digits of these answers, the first one's lowest
+unfoldable pub digitsOf : List Bool → ℕ
+digitsOf [] = 0
+digitsOf (b ∷ bs) = pushed (digitsOf bs) b
 
--- the digits of the procedures p, p + 1, .., k of them, below those of m
-unfoldable pub markOnto : (ℕ → ℕ → Bool) → ℕ → ℕ → ℕ → ℕ → ℕ
-markOnto b n p zero m = m
-markOnto b n p (suc k) m = pushed (markOnto b n (p + 1) k m) (b n p)
+-- the digits of these procedures
+unfoldable pub markBy : (ℕ → ℕ → Bool) → ℕ → List ℕ → ℕ
+markBy b n [] = 0
+markBy b n (p ∷ ps) = pushed (markBy b n ps) (b n p)
 
-unfoldable pub markOf : (ℕ → ℕ → Bool) → ℕ → ℕ
-markOf b n = markOnto b n 1 lastProcedure 0
+unfoldable pub markOf : Draft → (ℕ → ℕ → Bool) → ℕ → ℕ
+markOf d b n = markBy b n (askedAt (role d n))
 
 -- of the elements n, n + 1, .., k of them
-unfoldable pub marksOf : (ℕ → ℕ → Bool) → ℕ → ℕ → List ℕ
-marksOf b n zero = []
-marksOf b n (suc k) = markOf b n ∷ marksOf b (n + 1) k
+unfoldable pub marksOf : Draft → (ℕ → ℕ → Bool) → ℕ → ℕ → List ℕ
+marksOf d b n zero = []
+marksOf d b n (suc k) = markOf d b n ∷ marksOf d b (n + 1) k
 
 -- ---- read again
 -- how many of the k lowest digits are 1
@@ -42,13 +43,28 @@ unfoldable pub ones : ℕ → ℕ → ℕ
 ones zero m = 0
 ones (suc k) m = m % 2 + ones k (m / 2)
 
--- the records of element n that the k lowest digits tell of, from procedure p on
-unfoldable pub marked : Draft → ℕ → ℕ → ℕ → ℕ → List Finding
-marked d n p zero m = []
-marked d n p (suc k) m =
-    pick (eqb (m % 2) 1) (finding d n p ∷ marked d n (p + 1) k (m / 2)) (marked d n (p + 1) k (m / 2))
+-- the most procedures of one role that the code has room for
+abbrev pub most : ℕ
+most = 16
+
+-- the records of element n that the digits of these procedures tell of
+unfoldable pub marked : Draft → ℕ → List ℕ → ℕ → List Finding
+marked d n [] m = []
+marked d n (p ∷ ps) m = pick (eqb (m % 2) 1) (finding d n p ∷ marked d n ps (m / 2)) (marked d n ps (m / 2))
+
+-- a list of procedures, with zeros behind them up to k
+unfoldable pub padded : ℕ → List ℕ → List ℕ
+padded zero ps = []
+padded (suc k) [] = 0 ∷ padded k []
+padded (suc k) (p ∷ ps) = p ∷ padded k ps
+
+abbrev pub askedRow : ℕ → List ℕ
+askedRow r = padded most (askedAt r)
+
+unfoldable pub markedAt : Draft → ℕ → ℕ → List Finding
+markedAt d n m = marked d n (askedRow (role d n)) m
 
 -- of the elements n, n + 1, ..
 unfoldable pub markedFrom : Draft → ℕ → List ℕ → List Finding
 markedFrom d n [] = []
-markedFrom d n (m ∷ ms) = marked d n 1 lastProcedure m ++ markedFrom d (n + 1) ms
+markedFrom d n (m ∷ ms) = markedAt d n m ++ markedFrom d (n + 1) ms

@@ -1,4 +1,2 @@
-pub mod Ids
 pub mod Numbers
 pub mod Names
-pub mod Keys

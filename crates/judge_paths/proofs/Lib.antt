@@ -1,5 +1,4 @@
-pub mod Numbers
-pub mod Chains
+pub mod Words
 pub mod Children
 pub mod Walks
 pub mod Parents

@@ -5,24 +5,23 @@ use mathlib.Core.Bool.{Bool, true, false}
 use mathlib.Core.List.{List}
 use Prim.Native.Nat.{ℕ}
 use native.Mathlib.Omega.{arith}
+use lib.Dec.{eqb}
 use Rattle.text_scan.specs.Choice.{pick, _or_, not}
 use Rattle.text_scan.proofs.Tests.{never, and-left}
 use Rattle.xml_steps.specs.Reading.{parentOf}
 use Rattle.judge_paths.specs.declared.DocumentType.{DocumentType}
-use Rattle.judge_paths.specs.declared.Role.{Role}
-use Rattle.judge_paths.specs.declared.Role.the-variants.{Unknown, Unlisted, Author}
-use Rattle.judge_paths.specs.Roles.{sameRole, isKnown}
-use Rattle.judge_paths.specs.Paths.{fits, either, listed, named, judged, childRole, hasRow, nameOf, roleOf}
+use Rattle.judge_paths.specs.Roles.{Unknown, Unlisted, Author, isKnown}
+use Rattle.judge_paths.specs.Paths.{fits, either, table, named, isJudged, childRole, hasRow, nameOf, roleOf}
 use Rattle.judge_paths.proofs.Walks.{role-root, role-told}
 
 -- judged by a test that fails for Unknown
-module _ (q : Role → Bool) (z : q Unknown ≡ false) where
-  judged-child : (t : DocumentType) (p : Role) (name : List ℕ) → q (childRole t p name) ≡ true → isKnown p ≡ true
+module _ (q : ℕ → Bool) (z : q Unknown ≡ false) where
+  judged-child : (t : DocumentType) (p : ℕ) (name : List ℕ) → q (childRole t p name) ≡ true → isKnown p ≡ true
   unfolding childRole
-  judged-child t p name e = go (judged t p) refl e
+  judged-child t p name e = go (isJudged t p) refl e
     where
-      go : (b : Bool) → judged t p ≡ b → q (pick b (named (listed t p) name) Unknown) ≡ true → isKnown p ≡ true
-      go true f e = and-left (isKnown p) (not (sameRole p Author) or fits t either) f
+      go : (b : Bool) → isJudged t p ≡ b → q (pick b (named t p name table) Unknown) ≡ true → isKnown p ≡ true
+      go true f e = and-left (isKnown p) (not (eqb p Author) or fits either t) f
       go false f e = never (sym e ∙ z)
 
   judged-parent : (s rows : List ℕ) (t : DocumentType) (n : ℕ) → (n ≡ 0 → ⊥) → q (roleOf s rows t n) ≡ true → isKnown (roleOf s rows t (parentOf rows n)) ≡ true
@@ -39,4 +38,4 @@ module _ (s rows : List ℕ) (t : DocumentType) (n : ℕ) where
   -- the root is never unlisted
   pub unlisted-parent : roleOf s rows t n ≡ Unlisted → isKnown (roleOf s rows t (parentOf rows n)) ≡ true
   unlisted-parent e =
-      judged-parent (λ r. sameRole r Unlisted) refl s rows t n (λ y. absurd (let z : _≡_ {A = ℕ} 0 1 = cc (role-root s rows t n y) in omega arith)) (rw e)
+      judged-parent (λ r. eqb r Unlisted) refl s rows t n (λ y. absurd (let z : _≡_ {A = ℕ} 0 1 = cc (role-root s rows t n y) in omega arith)) (rw e)

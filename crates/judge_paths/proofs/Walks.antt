@@ -13,8 +13,7 @@ use Rattle.text_scan.proofs.Tests.{and-left, and-right}
 use Rattle.xml_names.specs.Names.{nameEnd}
 use Rattle.xml_steps.specs.Reading.{parentOf, firstOf}
 use Rattle.judge_paths.specs.declared.DocumentType.{DocumentType}
-use Rattle.judge_paths.specs.declared.Role.{Role}
-use Rattle.judge_paths.specs.declared.Role.the-variants.{Unknown, Root}
+use Rattle.judge_paths.specs.Roles.{Unknown, Root}
 use Rattle.judge_paths.specs.Paths.{childRole, hasRow, nameOf, roleWithin, roleOf}
 
 -- ---- the row of an element
@@ -58,17 +57,17 @@ module _ (s rows : List ℕ) (n : ℕ) (b : Bool) (e : b ≡ hasRow s rows n) (f
   parent-falls p m q g = omega (arith, parent-earlier s rows n has-row)
 
 -- the name behind the first byte
-pub name-below : (s rows : List ℕ) (n : ℕ) (kind : DocumentType) (parent r : Role) (f e : ℕ) → f ≡ getD rows (4 * n + 2) 0 → e ≡ nameEnd s (f + 1) → r ≡ childRole kind parent (take (e - (f + 1)) (drop (f + 1) s)) → r ≡ childRole kind parent (nameOf s rows n)
+pub name-below : (s rows : List ℕ) (n : ℕ) (kind : DocumentType) (parent r : ℕ) (f e : ℕ) → f ≡ getD rows (4 * n + 2) 0 → e ≡ nameEnd s (f + 1) → r ≡ childRole kind parent (take (e - (f + 1)) (drop (f + 1) s)) → r ≡ childRole kind parent (nameOf s rows n)
 name-below s rows n kind parent r f e q g h = rw (← q, ← g) h
 
 -- ---- a higher bound changes nothing, so the role of an element is told by its parent's role
 module _ (s rows : List ℕ) (t : DocumentType) where
   -- what is told of the parent's role is the same where the parent's role is, if there is a row
-  by-row : (n : ℕ) (a b : Role) → (hasRow s rows n ≡ true → a ≡ b) → pick (hasRow s rows n) (childRole t a (nameOf s rows n)) Unknown ≡ pick (hasRow s rows n) (childRole t b (nameOf s rows n)) Unknown
+  by-row : (n : ℕ) (a b : ℕ) → (hasRow s rows n ≡ true → a ≡ b) → pick (hasRow s rows n) (childRole t a (nameOf s rows n)) Unknown ≡ pick (hasRow s rows n) (childRole t b (nameOf s rows n)) Unknown
   by-row n a b f = go (hasRow s rows n) f
     where
       go : (h : Bool) → (h ≡ true → a ≡ b) → pick h (childRole t a (nameOf s rows n)) Unknown ≡ pick h (childRole t b (nameOf s rows n)) Unknown
-      go true f = ap (λ (r : Role). childRole t r (nameOf s rows n)) (f refl)
+      go true f = ap (λ (r : ℕ). childRole t r (nameOf s rows n)) (f refl)
       go false f = refl
 
   pub enough : (k j n : ℕ) → n ≤ k → n ≤ j → roleWithin s rows t k n ≡ roleWithin s rows t j n
@@ -99,5 +98,5 @@ module _ (s rows : List ℕ) (t : DocumentType) where
     pub role-none : b ≡ false → Unknown ≡ roleOf s rows t n
     role-none f = sym (role-told n z ∙ rw (← e, f))
 
-    pub role-child : b ≡ true → (p : ℕ) → p ≡ getD rows (4 * n + 1) 0 → (a r : Role) → a ≡ roleOf s rows t p → r ≡ childRole t a (nameOf s rows n) → r ≡ roleOf s rows t n
+    pub role-child : b ≡ true → (p : ℕ) → p ≡ getD rows (4 * n + 1) 0 → (a r : ℕ) → a ≡ roleOf s rows t p → r ≡ childRole t a (nameOf s rows n) → r ≡ roleOf s rows t n
     role-child f p g a r h q = sym (role-told n z ∙ rw (← e, f, ← g, ← h, ← q))

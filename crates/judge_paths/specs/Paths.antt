@@ -4,7 +4,7 @@
 use Prim.Native.Nat.{ℕ, zero, suc, _+_, _/_}
 use Prim.Native.String.{String}
 use mathlib.Core.Bool.{Bool, true, false}
-use mathlib.Core.List.{List, [], _∷_}
+use mathlib.Core.List.{List, [], _∷_, _++_}
 use lib.Dec.{eqb, ltb}
 use lib.ListN.{length}
 use Rattle.text_scan.specs.Choice.{pick, _or_, _and_, not}
@@ -14,9 +14,7 @@ use Rattle.xml_names.specs.Names.{nameAt}
 use Rattle.xml_steps.specs.Reading.{parentOf, firstOf}
 use Rattle.judge_paths.specs.declared.DocumentType.{DocumentType}
 use Rattle.judge_paths.specs.declared.DocumentType.the-variants.{Neither, Registration, Request}
-use Rattle.judge_paths.specs.declared.Role.{Role}
-use Rattle.judge_paths.specs.declared.Role.the-variants.{Unknown, Unlisted, Root, Id, Code, Title, Br, EffectiveTime, SetId, VersionNumber, Author, Component, StructuredBody, Time, Entity1, Labeler, Entity2, Registrant, Entity3, Establishment, Entity4, Agent, OrganisationId, OrganisationName, ContactParty, ContactPerson, PersonName, Addr, StreetAddressLine, City, State, PostalCode, Country, Telecom, Performance, ActDefinition, OperationCode}
-use Rattle.judge_paths.specs.Roles.{sameRole, isKnown}
+use Rattle.judge_paths.specs.Roles.{Unknown, Unlisted, Root, Id, Code, Title, Br, EffectiveTime, SetId, VersionNumber, Author, Component, StructuredBody, Time, Entity1, Labeler, Entity2, Registrant, Entity3, Establishment, Entity4, Agent, OrganisationId, OrganisationName, ContactParty, ContactPerson, PersonName, Addr, StreetAddressLine, City, State, PostalCode, Country, Telecom, Performance, ActDefinition, OperationCode, RequestEntity, RequestLabeler, isKnown}
 
 -- the document types for which a row of the table holds
 pub data Types : Type 0 where
@@ -25,30 +23,31 @@ pub data Types : Type 0 where
   registration : Types
   request : Types
 
-abbrev pub fits : DocumentType → Types → Bool
-fits t any = true
-fits Neither either = false
-fits Neither registration = false
-fits Neither request = false
-fits Registration either = true
-fits Registration registration = true
-fits Registration request = false
-fits Request either = true
-fits Request registration = false
-fits Request request = true
+abbrev pub fits : Types → DocumentType → Bool
+fits any t = true
+fits either Neither = false
+fits either Registration = true
+fits either Request = true
+fits registration Neither = false
+fits registration Registration = true
+fits registration Request = false
+fits request Neither = false
+fits request Registration = false
+fits request Request = true
 
 -- a parent lists an element of this name, which is then known as `child`
 pub record Row : Type 0 where
   pub types : Types
-  pub parent : Role
+  pub parent : ℕ
   pub name : List ℕ
-  pub child : Role
+  pub child : ℕ
 
-abbrev pub row : Types → Role → String → Role → Row
+abbrev pub row : Types → ℕ → String → ℕ → Row
 row types parent name child = record { types = types; parent = parent; name = text name; child = child }
 
-abbrev pub table : List Row
-table =
+-- outside author, and directly in it
+abbrev pub upperTable : List Row
+upperTable =
     row any Root "id" Id
     ∷ row any Root "code" Code
     ∷ row any Root "title" Title
@@ -60,30 +59,56 @@ table =
     ∷ row any Title "br" Br
     ∷ row any Component "structuredBody" StructuredBody
     ∷ row either Author "time" Time
-    ∷ row either Author "assignedEntity" Entity1
+    ∷ row registration Author "assignedEntity" Entity1
+    ∷ row request Author "assignedEntity" RequestEntity
+    ∷ []
+
+-- labelers
+abbrev pub labelerTable : List Row
+labelerTable =
+    row any RequestEntity "representedOrganization" RequestLabeler
+    ∷ row any RequestLabeler "id" OrganisationId
+    ∷ row any RequestLabeler "name" OrganisationName
+    ∷ row any RequestLabeler "contactParty" ContactParty
     ∷ row any Entity1 "representedOrganization" Labeler
     ∷ row any Labeler "id" OrganisationId
     ∷ row any Labeler "name" OrganisationName
-    ∷ row request Labeler "contactParty" ContactParty
-    ∷ row registration Labeler "assignedEntity" Entity2
-    ∷ row any Entity2 "assignedOrganization" Registrant
-    ∷ row any Registrant "id" OrganisationId
+    ∷ row any Labeler "assignedEntity" Entity2
+    ∷ []
+
+-- the organisations below
+abbrev pub organisationTable : List Row
+organisationTable =
+    row any Registrant "id" OrganisationId
     ∷ row any Registrant "name" OrganisationName
     ∷ row any Registrant "contactParty" ContactParty
     ∷ row any Registrant "assignedEntity" Entity3
-    ∷ row any Entity3 "assignedOrganization" Establishment
-    ∷ row any Entity3 "performance" Performance
     ∷ row any Establishment "id" OrganisationId
     ∷ row any Establishment "name" OrganisationName
     ∷ row any Establishment "contactParty" ContactParty
     ∷ row any Establishment "assignedEntity" Entity4
     ∷ row any Establishment "addr" Addr
-    ∷ row any Entity4 "assignedOrganization" Agent
-    ∷ row any Entity4 "performance" Performance
     ∷ row any Agent "id" OrganisationId
     ∷ row any Agent "name" OrganisationName
     ∷ row any Agent "telecom" Telecom
-    ∷ row any ContactParty "addr" Addr
+    ∷ []
+
+-- the entities that hold them
+abbrev pub entityTable : List Row
+entityTable =
+    row any Entity2 "assignedOrganization" Registrant
+    ∷ row any Entity3 "assignedOrganization" Establishment
+    ∷ row any Entity3 "performance" Performance
+    ∷ row any Entity4 "assignedOrganization" Agent
+    ∷ row any Entity4 "performance" Performance
+    ∷ row any Performance "actDefinition" ActDefinition
+    ∷ row any ActDefinition "code" OperationCode
+    ∷ []
+
+-- contacts and addresses
+abbrev pub contactTable : List Row
+contactTable =
+    row any ContactParty "addr" Addr
     ∷ row any ContactParty "telecom" Telecom
     ∷ row any ContactParty "contactPerson" ContactPerson
     ∷ row any ContactPerson "name" PersonName
@@ -92,35 +117,24 @@ table =
     ∷ row any Addr "state" State
     ∷ row any Addr "postalCode" PostalCode
     ∷ row any Addr "country" Country
-    ∷ row any Performance "actDefinition" ActDefinition
-    ∷ row any ActDefinition "code" OperationCode
     ∷ []
 
-abbrev pub keep : Bool → Row → List Row → List Row
-keep true x xs = x ∷ xs
-keep false x xs = xs
+abbrev pub table : List Row
+table = contactTable ++ entityTable ++ organisationTable ++ labelerTable ++ upperTable
 
--- the rows of a parent, in a document of this type
-unfoldable pub rowsOf : DocumentType → Role → List Row → List Row
-rowsOf t parent [] = []
-rowsOf t parent (x ∷ xs) = keep (sameRole (x .parent) parent and fits t (x .types)) x (rowsOf t parent xs)
-
--- what a parent lists
-unfoldable pub listed : DocumentType → Role → List Row
-listed t parent = rowsOf t parent table
-
--- the child of this name, by the first row that has it
-unfoldable pub named : List Row → List ℕ → Role
-named [] name = Unlisted
-named (x ∷ xs) name = pick (equal name (x .name)) (x .child) (named xs name)
+-- the child of this name, of the rows of this parent in a document of this type
+unfoldable pub named : DocumentType → ℕ → List ℕ → List Row → ℕ
+named t parent name [] = Unlisted
+named t parent name (x ∷ xs) =
+    pick (eqb (x .parent) parent and fits (x .types) t and equal name (x .name)) (x .child) (named t parent name xs)
 
 -- the children of a known element are judged; those of author in the two types only
-abbrev pub judged : DocumentType → Role → Bool
-judged t parent = isKnown parent and (not (sameRole parent Author) or fits t either)
+abbrev pub isJudged : DocumentType → ℕ → Bool
+isJudged t parent = isKnown parent and (not (eqb parent Author) or fits either t)
 
 -- the role of an element of this name inside a parent of that role
-unfoldable pub childRole : DocumentType → Role → List ℕ → Role
-childRole t parent name = pick (judged t parent) (named (listed t parent) name) Unknown
+unfoldable pub childRole : DocumentType → ℕ → List ℕ → ℕ
+childRole t parent name = pick (isJudged t parent) (named t parent name table) Unknown
 
 -- element n has a row in the table, its parent stands earlier, and its first byte stands in the document
 abbrev pub hasRow : List ℕ → List ℕ → ℕ → Bool
@@ -131,12 +145,12 @@ abbrev pub nameOf : List ℕ → List ℕ → ℕ → List ℕ
 nameOf s rows n = nameAt s (firstOf rows n + 1)
 
 -- the role of element n, which is at most k: number 0 is the root, and any other is told by its parent
-unfoldable pub roleWithin : List ℕ → List ℕ → DocumentType → ℕ → ℕ → Role
+unfoldable pub roleWithin : List ℕ → List ℕ → DocumentType → ℕ → ℕ → ℕ
 roleWithin s rows t zero n = Root
 roleWithin s rows t (suc k) n =
     pick (eqb n 0) Root
     (pick (hasRow s rows n) (childRole t (roleWithin s rows t k (parentOf rows n)) (nameOf s rows n)) Unknown)
 
 -- the role of element n
-unfoldable pub roleOf : List ℕ → List ℕ → DocumentType → ℕ → Role
+unfoldable pub roleOf : List ℕ → List ℕ → DocumentType → ℕ → ℕ
 roleOf s rows t n = roleWithin s rows t n n

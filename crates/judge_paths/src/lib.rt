@@ -3,11 +3,11 @@ ghost use mathlib.Core.Path.{_≡_};
 ghost use mathlib.Core.Bool.{true};
 ghost use Prim.Native.Nat.{_+_, _*_, _/_, _^_, _<_};
 ghost use lib.ListN.{length, getD};
-ghost use Rattle.text_scan.specs.Choice.{pick};
-ghost use Rattle.text_scan.specs.Bytes.{text};
-ghost use Rattle.text_facts.specs.Strings.{equal};
-ghost use Rattle.judge_paths.specs.Roles.{roleNumber};
-ghost use Rattle.judge_paths.specs.Paths.{listed, named, childRole, hasRow, nameOf, roleOf};
+ghost use Rattle.judge_paths.specs.Paths.{upperTable, labelerTable, organisationTable, entityTable, contactTable, table, named, isJudged, childRole, hasRow, nameOf, roleOf};
+ghost use Rattle.judge_paths.specs.Roles.{Author};
+ghost use Rattle.judge_paths.specs.Words.{wordEnd, childIn};
+
+pub mod role;
 
 // The type of a document: 51725-0 is the registration, 51726-8 the labeler code request.
 pub enum DocumentType {
@@ -16,288 +16,275 @@ pub enum DocumentType {
     Request,
 }
 
-// As what an element is known. Inside author, an assignedEntity and the organisation in it have a level from 1 to 4: the labeler, the
-// registrant, an establishment, an agent or importer.
-pub enum Role {
-    // Not judged: inside an unlisted element, or inside author without a type.
-    Unknown,
-    // Not known, in a known parent that does not list it.
-    Unlisted,
-    Root,
-    Id,
-    Code,
-    Title,
-    Br,
-    EffectiveTime,
-    SetId,
-    VersionNumber,
-    Author,
-    Component,
-    StructuredBody,
-    Time,
-    Entity1,
-    Labeler,
-    Entity2,
-    Registrant,
-    Entity3,
-    Establishment,
-    Entity4,
-    Agent,
-    OrganisationId,
-    OrganisationName,
-    ContactParty,
-    ContactPerson,
-    PersonName,
-    Addr,
-    StreetAddressLine,
-    City,
-    State,
-    PostalCode,
-    Country,
-    Telecom,
-    Performance,
-    ActDefinition,
-    // The code in an actDefinition.
-    OperationCode,
-}
-
-// The number of a role, by which two roles are compared.
-pub fn role_number(role: Role) -> u32
-    ensures { λ r. ⌜ r ≡ roleNumber role ⌝ }
+// The position after the word at `at`.
+fn word_end(words: &[u8], at: usize) -> usize
+    ensures { λ r. ⌜ r ≡ wordEnd (now (words .entry)) at ⌝ }
 {
-    match role {
-        Role::Unknown => 0,
-        Role::Unlisted => 1,
-        Role::Root => 2,
-        Role::Id => 3,
-        Role::Code => 4,
-        Role::Title => 5,
-        Role::Br => 6,
-        Role::EffectiveTime => 7,
-        Role::SetId => 8,
-        Role::VersionNumber => 9,
-        Role::Author => 10,
-        Role::Component => 11,
-        Role::StructuredBody => 12,
-        Role::Time => 13,
-        Role::Entity1 => 14,
-        Role::Labeler => 15,
-        Role::Entity2 => 16,
-        Role::Registrant => 17,
-        Role::Entity3 => 18,
-        Role::Establishment => 19,
-        Role::Entity4 => 20,
-        Role::Agent => 21,
-        Role::OrganisationId => 22,
-        Role::OrganisationName => 23,
-        Role::ContactParty => 24,
-        Role::ContactPerson => 25,
-        Role::PersonName => 26,
-        Role::Addr => 27,
-        Role::StreetAddressLine => 28,
-        Role::City => 29,
-        Role::State => 30,
-        Role::PostalCode => 31,
-        Role::Country => 32,
-        Role::Telecom => 33,
-        Role::Performance => 34,
-        Role::ActDefinition => 35,
-        Role::OperationCode => 36,
+    let mut i = at;
+    while i < words.len() {
+        if words[i] == b' ' {
+            return i;
+        }
+        i += 1;
     }
+    i
 }
 
-// The role of a child where one name is listed, or left to ask for.
-fn only(name: &[u8], word: &[u8], child: Role) -> Role
-    ensures { λ r. ⌜ r ≡ pick (equal (now (name .entry)) (now (word .entry))) child Role.Unlisted ⌝ }
+// The role of a child of this name where a parent lists these words, each followed by a space, with these roles.
+fn child_in(name: &[u8], words: &[u8], roles: &[u32]) -> u32
+    ensures { λ r. ⌜ r ≡ childIn (now (words .entry)) (now (roles .entry)) (now (name .entry)) ⌝ }
 {
-    if text_facts::same(name, word) {
-        return child;
+    let mut at = 0;
+    let mut number = 0;
+    while at < words.len() {
+        let end = word_end(words, at);
+        if text_facts::same(name, &words[at..end]) {
+            if number < roles.len() {
+                return roles[number];
+            }
+            return role::UNKNOWN;
+        }
+        at = end + 1;
+        number += 1;
     }
-    Role::Unlisted
+    role::UNLISTED
 }
 
-// The children of the root.
-fn in_root(name: &[u8]) -> Role
-    ensures { λ r. ⌜ r ≡ named (listed DocumentType.Neither Role.Root) (now (name .entry)) ⌝ }
-{
-    if text_facts::same(name, b"id") {
-        return Role::Id;
-    }
-    if text_facts::same(name, b"code") {
-        return Role::Code;
-    }
-    if text_facts::same(name, b"title") {
-        return Role::Title;
-    }
-    if text_facts::same(name, b"effectiveTime") {
-        return Role::EffectiveTime;
-    }
-    if text_facts::same(name, b"setId") {
-        return Role::SetId;
-    }
-    if text_facts::same(name, b"versionNumber") {
-        return Role::VersionNumber;
-    }
-    if text_facts::same(name, b"author") {
-        return Role::Author;
-    }
-    only(name, b"component", Role::Component)
-}
-
-// The children of author, in a document of one of the two types.
-fn in_typed_author(name: &[u8]) -> Role
-    ensures { λ r. ⌜ r ≡ named (listed DocumentType.Registration Role.Author) (now (name .entry)) ⌝ }
-{
-    if text_facts::same(name, b"time") {
-        return Role::Time;
-    }
-    only(name, b"assignedEntity", Role::Entity1)
-}
-
-// The children of author: without a type nothing inside is judged.
-fn in_author(kind: DocumentType, name: &[u8]) -> Role
-    ensures { λ r. ⌜ r ≡ childRole kind Role.Author (now (name .entry)) ⌝ }
+// The children of author: in a document without a type they are not asked for.
+fn in_author(kind: DocumentType, name: &[u8]) -> u32
+    ensures { λ r. ⌜ r ≡ named kind Author (now (name .entry)) upperTable ⌝ }
 {
     match kind {
-        DocumentType::Neither => Role::Unknown,
-        DocumentType::Registration => in_typed_author(name),
-        DocumentType::Request => in_typed_author(name),
+        DocumentType::Neither => role::UNLISTED,
+        DocumentType::Registration => {
+            child_in(name, b"time assignedEntity ", &[role::TIME, role::ENTITY_1])
+        }
+        DocumentType::Request => child_in(
+            name,
+            b"time assignedEntity ",
+            &[role::TIME, role::REQUEST_ENTITY],
+        ),
     }
 }
 
-// The children of the labeler.
-fn in_labeler(kind: DocumentType, name: &[u8]) -> Role
-    ensures { λ r. ⌜ r ≡ named (listed kind Role.Labeler) (now (name .entry)) ⌝ }
+// The children of the root, a title, a component or author.
+fn in_upper(kind: DocumentType, parent: u32, name: &[u8]) -> u32
+    ensures { λ r. ⌜ r ≡ named kind parent (now (name .entry)) upperTable ⌝ }
 {
-    if text_facts::same(name, b"id") {
-        return Role::OrganisationId;
+    if parent == role::ROOT {
+        return child_in(
+            name,
+            b"id code title effectiveTime setId versionNumber author component ",
+            &[
+                role::ID,
+                role::CODE,
+                role::TITLE,
+                role::EFFECTIVE_TIME,
+                role::SET_ID,
+                role::VERSION_NUMBER,
+                role::AUTHOR,
+                role::COMPONENT,
+            ],
+        );
     }
-    if text_facts::same(name, b"name") {
-        return Role::OrganisationName;
+    if parent == role::TITLE {
+        return child_in(name, b"br ", &[role::BR]);
     }
-    match kind {
-        DocumentType::Neither => Role::Unlisted,
-        DocumentType::Registration => only(name, b"assignedEntity", Role::Entity2),
-        DocumentType::Request => only(name, b"contactParty", Role::ContactParty),
+    if parent == role::COMPONENT {
+        return child_in(name, b"structuredBody ", &[role::STRUCTURED_BODY]);
     }
+    if parent == role::AUTHOR {
+        return in_author(kind, name);
+    }
+    role::UNLISTED
 }
 
-// The children of the registrant.
-fn in_registrant(name: &[u8]) -> Role
-    ensures { λ r. ⌜ r ≡ named (listed DocumentType.Neither Role.Registrant) (now (name .entry)) ⌝ }
+// The children of a labeler, of an assignedEntity above it or in it.
+fn in_labeler(parent: u32, name: &[u8]) -> u32
+    ensures { λ r. ⌜ r ≡ named DocumentType.Neither parent (now (name .entry)) labelerTable ⌝ }
 {
-    if text_facts::same(name, b"id") {
-        return Role::OrganisationId;
+    if parent == role::REQUEST_ENTITY {
+        return child_in(name, b"representedOrganization ", &[role::REQUEST_LABELER]);
     }
-    if text_facts::same(name, b"name") {
-        return Role::OrganisationName;
+    if parent == role::REQUEST_LABELER {
+        return child_in(
+            name,
+            b"id name contactParty ",
+            &[
+                role::ORGANISATION_ID,
+                role::ORGANISATION_NAME,
+                role::CONTACT_PARTY,
+            ],
+        );
     }
-    if text_facts::same(name, b"contactParty") {
-        return Role::ContactParty;
+    if parent == role::ENTITY_1 {
+        return child_in(name, b"representedOrganization ", &[role::LABELER]);
     }
-    only(name, b"assignedEntity", Role::Entity3)
+    if parent == role::LABELER {
+        return child_in(
+            name,
+            b"id name assignedEntity ",
+            &[
+                role::ORGANISATION_ID,
+                role::ORGANISATION_NAME,
+                role::ENTITY_2,
+            ],
+        );
+    }
+    role::UNLISTED
 }
 
-// The children of an establishment.
-fn in_establishment(name: &[u8]) -> Role
-    ensures { λ r. ⌜ r ≡ named (listed DocumentType.Neither Role.Establishment) (now (name .entry)) ⌝ }
+// The children of a registrant, an establishment or an agent.
+fn in_organisation(parent: u32, name: &[u8]) -> u32
+    ensures { λ r. ⌜ r ≡ named DocumentType.Neither parent (now (name .entry)) organisationTable ⌝ }
 {
-    if text_facts::same(name, b"id") {
-        return Role::OrganisationId;
+    if parent == role::REGISTRANT {
+        return child_in(
+            name,
+            b"id name contactParty assignedEntity ",
+            &[
+                role::ORGANISATION_ID,
+                role::ORGANISATION_NAME,
+                role::CONTACT_PARTY,
+                role::ENTITY_3,
+            ],
+        );
     }
-    if text_facts::same(name, b"name") {
-        return Role::OrganisationName;
+    if parent == role::ESTABLISHMENT {
+        return child_in(
+            name,
+            b"id name contactParty assignedEntity addr ",
+            &[
+                role::ORGANISATION_ID,
+                role::ORGANISATION_NAME,
+                role::CONTACT_PARTY,
+                role::ENTITY_4,
+                role::ADDR,
+            ],
+        );
     }
-    if text_facts::same(name, b"contactParty") {
-        return Role::ContactParty;
+    if parent == role::AGENT {
+        return child_in(
+            name,
+            b"id name telecom ",
+            &[
+                role::ORGANISATION_ID,
+                role::ORGANISATION_NAME,
+                role::TELECOM,
+            ],
+        );
     }
-    if text_facts::same(name, b"assignedEntity") {
-        return Role::Entity4;
-    }
-    only(name, b"addr", Role::Addr)
+    role::UNLISTED
 }
 
-// The children of a level 4 organisation.
-fn in_agent(name: &[u8]) -> Role
-    ensures { λ r. ⌜ r ≡ named (listed DocumentType.Neither Role.Agent) (now (name .entry)) ⌝ }
+// The children of a lower assignedEntity, and of a performance in it.
+fn in_entity(parent: u32, name: &[u8]) -> u32
+    ensures { λ r. ⌜ r ≡ named DocumentType.Neither parent (now (name .entry)) entityTable ⌝ }
 {
-    if text_facts::same(name, b"id") {
-        return Role::OrganisationId;
+    if parent == role::ENTITY_2 {
+        return child_in(name, b"assignedOrganization ", &[role::REGISTRANT]);
     }
-    if text_facts::same(name, b"name") {
-        return Role::OrganisationName;
+    if parent == role::ENTITY_3 {
+        return child_in(
+            name,
+            b"assignedOrganization performance ",
+            &[role::ESTABLISHMENT, role::PERFORMANCE],
+        );
     }
-    only(name, b"telecom", Role::Telecom)
+    if parent == role::ENTITY_4 {
+        return child_in(
+            name,
+            b"assignedOrganization performance ",
+            &[role::AGENT, role::PERFORMANCE],
+        );
+    }
+    if parent == role::PERFORMANCE {
+        return child_in(name, b"actDefinition ", &[role::ACT_DEFINITION]);
+    }
+    if parent == role::ACT_DEFINITION {
+        return child_in(name, b"code ", &[role::OPERATION_CODE]);
+    }
+    role::UNLISTED
 }
 
-// The children of an assignedEntity of level 3 or 4, with the role of the organisation in it.
-fn in_entity(name: &[u8], organisation: Role) -> Role
-    ensures { λ r. ⌜ r ≡ pick (equal (now (name .entry)) (text "assignedOrganization")) organisation (pick (equal (now (name .entry)) (text "performance")) Role.Performance Role.Unlisted) ⌝ }
+// The children of a contactParty, a contactPerson or an addr.
+fn in_contact(parent: u32, name: &[u8]) -> u32
+    ensures { λ r. ⌜ r ≡ named DocumentType.Neither parent (now (name .entry)) contactTable ⌝ }
 {
-    if text_facts::same(name, b"assignedOrganization") {
+    if parent == role::CONTACT_PARTY {
+        return child_in(
+            name,
+            b"addr telecom contactPerson ",
+            &[role::ADDR, role::TELECOM, role::CONTACT_PERSON],
+        );
+    }
+    if parent == role::CONTACT_PERSON {
+        return child_in(name, b"name ", &[role::PERSON_NAME]);
+    }
+    if parent == role::ADDR {
+        return child_in(
+            name,
+            b"streetAddressLine city state postalCode country ",
+            &[
+                role::STREET_ADDRESS_LINE,
+                role::CITY,
+                role::STATE,
+                role::POSTAL_CODE,
+                role::COUNTRY,
+            ],
+        );
+    }
+    role::UNLISTED
+}
+
+// The role of a child of this name, by what the parent lists.
+fn child_named(kind: DocumentType, parent: u32, name: &[u8]) -> u32
+    ensures { λ r. ⌜ r ≡ named kind parent (now (name .entry)) table ⌝ }
+{
+    let contact = in_contact(parent, name);
+    if contact != role::UNLISTED {
+        return contact;
+    }
+    let entity = in_entity(parent, name);
+    if entity != role::UNLISTED {
+        return entity;
+    }
+    let organisation = in_organisation(parent, name);
+    if organisation != role::UNLISTED {
         return organisation;
     }
-    only(name, b"performance", Role::Performance)
+    let labeler = in_labeler(parent, name);
+    if labeler != role::UNLISTED {
+        return labeler;
+    }
+    in_upper(kind, parent, name)
 }
 
-// The children of a contactParty.
-fn in_contact_party(name: &[u8]) -> Role
-    ensures { λ r. ⌜ r ≡ named (listed DocumentType.Neither Role.ContactParty) (now (name .entry)) ⌝ }
+// Whether the children of an element of this role are judged.
+fn is_judged(kind: DocumentType, parent: u32) -> bool
+    ensures { λ r. ⌜ r ≡ isJudged kind parent ⌝ }
 {
-    if text_facts::same(name, b"addr") {
-        return Role::Addr;
+    if parent <= role::UNLISTED {
+        return false;
     }
-    if text_facts::same(name, b"telecom") {
-        return Role::Telecom;
+    if parent == role::AUTHOR {
+        return match kind {
+            DocumentType::Neither => false,
+            DocumentType::Registration => true,
+            DocumentType::Request => true,
+        };
     }
-    only(name, b"contactPerson", Role::ContactPerson)
-}
-
-// The children of an addr.
-fn in_addr(name: &[u8]) -> Role
-    ensures { λ r. ⌜ r ≡ named (listed DocumentType.Neither Role.Addr) (now (name .entry)) ⌝ }
-{
-    if text_facts::same(name, b"streetAddressLine") {
-        return Role::StreetAddressLine;
-    }
-    if text_facts::same(name, b"city") {
-        return Role::City;
-    }
-    if text_facts::same(name, b"state") {
-        return Role::State;
-    }
-    if text_facts::same(name, b"postalCode") {
-        return Role::PostalCode;
-    }
-    only(name, b"country", Role::Country)
+    true
 }
 
 // The role of an element of this name in a parent of that role.
-pub fn child_role(kind: DocumentType, parent: Role, name: &[u8]) -> Role
+pub fn child_role(kind: DocumentType, parent: u32, name: &[u8]) -> u32
     ensures { λ r. ⌜ r ≡ childRole kind parent (now (name .entry)) ⌝ }
 {
-    match parent {
-        Role::Unknown => Role::Unknown,
-        Role::Unlisted => Role::Unknown,
-        Role::Root => in_root(name),
-        Role::Title => only(name, b"br", Role::Br),
-        Role::Component => only(name, b"structuredBody", Role::StructuredBody),
-        Role::Author => in_author(kind, name),
-        Role::Entity1 => only(name, b"representedOrganization", Role::Labeler),
-        Role::Labeler => in_labeler(kind, name),
-        Role::Entity2 => only(name, b"assignedOrganization", Role::Registrant),
-        Role::Registrant => in_registrant(name),
-        Role::Entity3 => in_entity(name, Role::Establishment),
-        Role::Establishment => in_establishment(name),
-        Role::Entity4 => in_entity(name, Role::Agent),
-        Role::Agent => in_agent(name),
-        Role::ContactParty => in_contact_party(name),
-        Role::ContactPerson => only(name, b"name", Role::PersonName),
-        Role::Addr => in_addr(name),
-        Role::Performance => only(name, b"actDefinition", Role::ActDefinition),
-        Role::ActDefinition => only(name, b"code", Role::OperationCode),
-        _ => Role::Unlisted,
+    if is_judged(kind, parent) {
+        return child_named(kind, parent, name);
     }
+    role::UNKNOWN
 }
 
 // The k-th number of element n's row.
@@ -322,7 +309,7 @@ fn has_row(document: &[u8], elements: &[u32], n: usize) -> bool
 }
 
 // The role of element n in a parent of that role.
-fn role_below(document: &[u8], elements: &[u32], n: usize, kind: DocumentType, parent: Role) -> Role
+fn role_below(document: &[u8], elements: &[u32], n: usize, kind: DocumentType, parent: u32) -> u32
     requires { ⌜ hasRow (now document) (now elements) n ≡ true ⌝ }
     ensures { λ r. ⌜ r ≡ childRole kind parent (nameOf (now (document .entry)) (now (elements .entry)) n) ⌝ }
 {
@@ -332,16 +319,16 @@ fn role_below(document: &[u8], elements: &[u32], n: usize, kind: DocumentType, p
 }
 
 // The role of element n, asked of its parent's number: a parent stands earlier in document order.
-pub fn role_of(document: &[u8], elements: &[u32], n: usize, kind: DocumentType) -> Role
+pub fn role_of(document: &[u8], elements: &[u32], n: usize, kind: DocumentType) -> u32
     ensures { λ r. ⌜ r ≡ roleOf (now (document .entry)) (now (elements .entry)) kind n ⌝ }
 {
     if n == 0 {
-        return Role::Root;
+        return role::ROOT;
     }
     if has_row(document, elements, n) {
         let parent = row_number(elements, n, 1);
         let above = role_of(document, elements, parent, kind);
         return role_below(document, elements, n, kind, above);
     }
-    Role::Unknown
+    role::UNKNOWN
 }

@@ -2,38 +2,31 @@
 -- Assumes nothing.
 use mathlib.Core.Path.{_≡_, sym, _∙_, ap}
 use mathlib.Core.Bool.{Bool, true, false}
-use mathlib.Core.List.{List}
 use Prim.Native.Nat.{ℕ}
 use Rattle.text_scan.specs.Choice.{not}
 use Rattle.text_scan.specs.declared.Found.{Found}
 use Rattle.text_scan.specs.declared.Found.the-variants.{At, Nothing}
-use Rattle.judge_paths.specs.declared.DocumentType.{DocumentType}
-use Rattle.judge_paths.specs.declared.Role.the-variants.{Labeler, Registrant, Entity3, Establishment, OperationCode}
-use Rattle.judge_draft.specs.declared.Test.the-variants.{Any}
-use Rattle.judge_draft.specs.Drafts.{Draft, draft, is, isEmpty}
-use Rattle.judge_draft.specs.Chosen.{ancestor, chosen, wanted, onlyOne}
-use Rattle.judge_organisations.specs.Organisations.{isRequest}
-use Rattle.judge_registrations.specs.Registrations.{breaks31, breaks32, ofNci, hasEstablishment, entityAt, breaks37, breaks38}
+use Rattle.judge_paths.specs.Roles.{Labeler, Registrant, Entity3, Establishment, OperationCode}
+use Rattle.judge_below.specs.declared.Test.the-variants.{Any}
+use Rattle.judge_draft.specs.Drafts.{Draft, is, isEmpty}
+use Rattle.judge_below.specs.Chosen.{ancestor, chosen, wanted, onlyOne}
+use Rattle.judge_registrations.specs.Registrations.{breaks31, breaks32, ofNci, hasEstablishment, breaks37, breaks38}
+use Rattle.judge_registrations.specs.Met.{entityAt}
 
 -- ---- 31
-module _ (s rows roles : List ℕ) (t : DocumentType) (n : ℕ) (a : Bool) (e : a ≡ is (draft s rows roles t) Labeler n) where
-  pub other-31 : a ≡ false → false ≡ breaks31 (draft s rows roles t) n
+module _ (d : Draft) (n : ℕ) (a : Bool) (e : a ≡ is d Labeler n) where
+  pub other-31 : a ≡ false → false ≡ breaks31 d n
   unfolding breaks31
   other-31 f = rw (← e, f)
 
-  module _ (f : a ≡ true) (b : Bool) (g : b ≡ isRequest t) where
-    pub request-31 : b ≡ true → false ≡ breaks31 (draft s rows roles t) n
-    unfolding breaks31 draft
-    request-31 h = rw (← e, f, ← g, h)
+  module _ (f : a ≡ true) (x : Found) (g : x ≡ onlyOne (chosen d (wanted Registrant 2 Any) n)) where
+    pub none-31 : x ≡ Nothing → true ≡ breaks31 d n
+    unfolding breaks31
+    none-31 h = rw (← e, f, ← g, h)
 
-    module _ (h : b ≡ false) (x : Found) (i : x ≡ onlyOne (chosen (draft s rows roles t) (wanted Registrant 2 Any) n)) where
-      pub none-31 : x ≡ Nothing → true ≡ breaks31 (draft s rows roles t) n
-      unfolding breaks31 draft
-      none-31 j = rw (← e, f, ← g, h, ← i, j)
-
-      pub one-31 : (k : ℕ) → x ≡ At k → false ≡ breaks31 (draft s rows roles t) n
-      unfolding breaks31 draft
-      one-31 k j = rw (← e, f, ← g, h, ← i, j)
+    pub one-31 : (k : ℕ) → x ≡ At k → false ≡ breaks31 d n
+    unfolding breaks31
+    one-31 k h = rw (← e, f, ← g, h)
 
 -- ---- 32
 module _ (d : Draft) (n : ℕ) (a : Bool) (e : a ≡ is d Registrant n) where

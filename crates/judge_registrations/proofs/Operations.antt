@@ -8,12 +8,12 @@ use Rattle.text_scan.proofs.Tests.{and-true, and-false}
 use Rattle.text_scan.specs.Bytes.{text}
 use Rattle.text_scan.specs.declared.Found.{Found}
 use Rattle.text_scan.specs.declared.Found.the-variants.{At, Nothing}
-use Rattle.judge_paths.specs.declared.Role.the-variants.{Establishment, Entity4, Addr, OperationCode}
+use Rattle.judge_paths.specs.Roles.{Establishment, Entity4, Addr, OperationCode}
 use Rattle.judge_draft.specs.declared.Demand.the-variants.{CodeRow, Nothing as Free}
-use Rattle.judge_draft.specs.declared.Test.the-variants.{Any, Agent, Import}
-use Rattle.judge_draft.specs.Drafts.{Draft, is, isEmpty}
-use Rattle.judge_draft.specs.Chosen.{agentCode, importCode, attributeIs, chosen, wanted, onlyOne, onlyKid}
-use Rattle.judge_contacts.specs.Contacts.{addressHolds, isUsa}
+use Rattle.judge_below.specs.declared.Test.the-variants.{Any, Agent, Import}
+use Rattle.judge_draft.specs.Drafts.{Draft, is, isEmpty, attributeIs}
+use Rattle.judge_below.specs.Chosen.{agentCode, importCode, chosen, wanted, onlyOne, onlyKid}
+use Rattle.judge_addresses.specs.Addresses.{addressHolds, isUsa}
 use Rattle.judge_registrations.specs.Registrations.{ofNci, isAgency, breaks33, demand34, inUsa, breaks35, breaks36}
 
 -- ---- a code of the NCI system, agent or import

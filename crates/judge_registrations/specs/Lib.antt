@@ -1,1 +1,2 @@
 pub mod Registrations
+pub mod Met

@@ -4,23 +4,20 @@
 use Prim.Native.Nat.{ℕ}
 use mathlib.Core.Bool.{Bool}
 use mathlib.Core.List.{List}
-use Rattle.text_scan.specs.Choice.{pick, _or_, _and_, not}
+use Rattle.text_scan.specs.Choice.{_or_, _and_, not}
 use Rattle.text_scan.specs.Bytes.{text}
-use Rattle.text_scan.specs.declared.Found.{Found}
-use Rattle.judge_paths.specs.declared.Role.the-variants.{Labeler, Registrant, Entity3, Establishment, Entity4, Addr, OperationCode}
+use Rattle.judge_paths.specs.Roles.{Labeler, Registrant, Entity3, Establishment, Entity4, Addr, OperationCode}
 use Rattle.judge_draft.specs.declared.Demand.{Demand}
 use Rattle.judge_draft.specs.declared.Demand.the-variants.{CodeRow}
-use Rattle.judge_draft.specs.declared.Test.the-variants.{Any, Agent, Import}
-use Rattle.judge_draft.specs.Drafts.{Draft, is, isEmpty}
-use Rattle.judge_draft.specs.Chosen.{agentCode, importCode, attributeIs, ancestor, chosen, wanted, kids, onlyOne, one, oneHas, onlyKid}
+use Rattle.judge_below.specs.declared.Test.the-variants.{Any, Agent, Import}
+use Rattle.judge_draft.specs.Drafts.{Draft, is, isEmpty, attributeIs}
+use Rattle.judge_below.specs.Chosen.{agentCode, importCode, ancestor, chosen, wanted, kids, onlyOne, one, oneHas, onlyKid}
 use Rattle.judge_draft.specs.Demands.{demandIf}
-use Rattle.judge_organisations.specs.Organisations.{isRequest}
-use Rattle.judge_contacts.specs.Contacts.{addressHolds, isUsa}
+use Rattle.judge_addresses.specs.Addresses.{addressHolds, isUsa}
 
--- ---- 31 and 32: an organisation stands two levels below the one above it
+-- ---- 31 and 32: of registrations. An organisation stands two levels below the one above it
 unfoldable pub breaks31 : Draft → ℕ → Bool
-breaks31 d n =
-    is d Labeler n and not (isRequest (d .type)) and not (one (onlyOne (chosen d (wanted Registrant 2 Any) n)))
+breaks31 d n = is d Labeler n and not (one (onlyOne (chosen d (wanted Registrant 2 Any) n)))
 
 unfoldable pub breaks32 : Draft → ℕ → Bool
 breaks32 d n = is d Registrant n and isEmpty (chosen d (wanted Establishment 2 Any) n)
@@ -61,10 +58,6 @@ breaks36 d n =
 -- ---- 37 and 38: the entity of an establishment
 unfoldable pub hasEstablishment : Draft → ℕ → Bool
 hasEstablishment d n = is d Entity3 n and not (isEmpty (kids d n Establishment))
-
--- the entity of level 3 that was met last, where n follows
-unfoldable pub entityAt : Draft → ℕ → ℕ → ℕ
-entityAt d last n = pick (is d Entity3 n) n last
 
 unfoldable pub breaks37 : Draft → ℕ → Bool
 breaks37 d n = hasEstablishment d n and isEmpty (operations d n)

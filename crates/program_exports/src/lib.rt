@@ -22,15 +22,15 @@ pub struct Part {
     pub after: usize,
 }
 
-fn check_numbers(answer: judge_check::Answer) -> Numbers
+fn check_numbers(answer: judge_document::Answer) -> Numbers
     ensures { λ r. ⌜ r ≡ checkNumbers answer ⌝ }
 {
     match answer {
-        judge_check::Answer::Findings(count) => Numbers {
+        judge_document::Answer::Findings(count) => Numbers {
             refusal: 0,
             value: count,
         },
-        judge_check::Answer::Refused(number, returned) => Numbers {
+        judge_document::Answer::Refused(number, returned) => Numbers {
             refusal: number,
             value: returned,
         },

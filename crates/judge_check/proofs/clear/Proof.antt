@@ -1,8 +1,9 @@
 -- `judge_check::clear` meets its contract.
 -- Assumes nothing.
 use borrow.Author.Needs.{needs}
-use Rattle.judge_check.proofs.Steps.{ToClear, clear-start, clear-room, clear-next, clear-over}
+use Rattle.judge_check.proofs.Cleared.{ToClear, clear-start, clear-room, clear-next, clear-over}
 use Prim.Native.Nat.{_-_}
+use Rattle.xml_reader.specs.Limits.{scratchLimit}
 use Rattle.judge_check.proofs.clear.Statement.{statement}
 use Rattle.judge_check.proofs.clear.Tie as tie
 
@@ -10,7 +11,7 @@ abbrev Inv-loop : tie.InvT-loop
 Inv-loop scratch₀ k₀ scratch k = ToClear scratch₀ scratch k
 
 abbrev μ-loop : tie.MeasureT-loop
-μ-loop scratch₀ k₀ scratch k = 4096 - k
+μ-loop scratch₀ k₀ scratch k = scratchLimit - k
 
 loop-holds : tie.Need-loop-holds Inv-loop μ-loop
 loop-holds c = search clear-start

@@ -1,25 +1,15 @@
 -- `judge_header::has_type` meets its contract.
 -- Assumes nothing.
-use Rattle.judge_header.proofs.Holds.{no-code, one-code}
+use Rattle.judge_header.proofs.Holds.{code-is}
 use borrow.Author.Needs.{needs}
 use Rattle.judge_header.proofs.has_type.Statement.{statement}
 use Rattle.judge_header.proofs.has_type.Tie as tie
 
-enum-known-code : tie.Need-enum-known-code
-enum-known-code c = search needs
-
-enum-told : tie.Need-enum-told
-enum-told c = search needs
+one-has-requires : tie.Need-one-has-requires
+one-has-requires c κs = search needs
 
 returns : tie.Need-returns
-returns c = search no-code
-
-typed-code-requires : tie.Need-typed-code-requires
-typed-code-requires c κs = search needs
-
-returns-2 : tie.Need-returns-2
-returns-2 c = search one-code
+returns c = search code-is
 
 pub has-type-spec : {M : Type 1} → statement M
-has-type-spec =
-    tie.close (tie.spec enum-known-code enum-told returns typed-code-requires returns-2)
+has-type-spec = tie.close (tie.spec one-has-requires returns)

@@ -17,8 +17,11 @@ is-bare-requires c κs = search needs
 returns : tie.Need-returns
 returns c = search three-bare
 
-unlisted-at-requires : tie.Need-unlisted-at-requires
-unlisted-at-requires c κs = search needs
+role-at-requires : tie.Need-role-at-requires
+role-at-requires c κs = search needs
+
+has-unlisted-requires : tie.Need-has-unlisted-requires
+has-unlisted-requires c κs = search needs
 
 returns-2 : tie.Need-returns-2
 returns-2 c = search three-known
@@ -34,6 +37,7 @@ breaks-3-spec =
     first-byte-requires
     is-bare-requires
     returns
-    unlisted-at-requires
+    role-at-requires
+    has-unlisted-requires
     returns-2
     returns-3)

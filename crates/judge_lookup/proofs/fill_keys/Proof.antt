@@ -1,6 +1,7 @@
 -- `judge_lookup::fill_keys` meets its contract.
 -- Assumes nothing.
-use Rattle.judge_lookup.proofs.Laws.{keys-of-none, keys-of-registration, keys-of-request}
+use Rattle.judge_lookup.proofs.Laws.{keys-of-type}
+use Rattle.judge_paths.specs.declared.DocumentType.the-variants.{Neither, Registration, Request}
 use borrow.Author.Needs.{needs}
 use Rattle.judge_lookup.proofs.fill_keys.Statement.{statement}
 use Rattle.judge_lookup.proofs.fill_keys.Tie as tie
@@ -36,19 +37,19 @@ same-length : tie.Need-same-length
 same-length c = search needs
 
 returns : tie.Need-returns
-returns c = search keys-of-none
+returns c = (search (keys-of-type Neither), search needs)
 
 same-length-2 : tie.Need-same-length-2
 same-length-2 c = search needs
 
 returns-2 : tie.Need-returns-2
-returns-2 c = search keys-of-registration
+returns-2 c = (search (keys-of-type Registration), search needs)
 
 same-length-3 : tie.Need-same-length-3
 same-length-3 c = search needs
 
 returns-3 : tie.Need-returns-3
-returns-3 c = search keys-of-request
+returns-3 c = (search (keys-of-type Request), search needs)
 
 pub fill-keys-spec : {M : Type 1} → statement M
 fill-keys-spec =

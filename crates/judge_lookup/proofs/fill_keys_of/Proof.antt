@@ -1,6 +1,6 @@
 -- `judge_lookup::fill_keys_of` meets its contract.
 -- Assumes nothing.
-use Rattle.judge_lookup.proofs.Laws.{keys-filled, room}
+use Rattle.judge_lookup.proofs.Laws.{keys-filled}
 use borrow.Author.Needs.{needs}
 use Rattle.judge_lookup.proofs.fill_keys_of.Statement.{statement}
 use Rattle.judge_lookup.proofs.fill_keys_of.Tie as tie
@@ -17,14 +17,14 @@ slice-aggregate-attribute-2 c = search needs
 attribute-requires : tie.Need-attribute-requires
 attribute-requires c κs = search needs
 
-fill-requires : tie.Need-fill-requires
-fill-requires c κs = search room
+fill-part-requires : tie.Need-fill-part-requires
+fill-part-requires c κs = (search needs, search needs, search needs)
 
 same-length : tie.Need-same-length
 same-length c = search needs
 
 returns : tie.Need-returns
-returns c = search keys-filled
+returns c = (search keys-filled, search needs)
 
 pub fill-keys-of-spec : {M : Type 1} → statement M
 fill-keys-of-spec =
@@ -34,6 +34,6 @@ fill-keys-of-spec =
     slice-aggregate-attribute
     slice-aggregate-attribute-2
     attribute-requires
-    fill-requires
+    fill-part-requires
     same-length
     returns)

@@ -8,28 +8,18 @@ use Rattle.judge_lookup.proofs.serve.Tie as tie
 serve-rows-requires : tie.Need-serve-rows-requires
 serve-rows-requires c κs = search needs
 
-serve-keys-requires : tie.Need-serve-keys-requires
-serve-keys-requires c κs = search needs
+fill-keys-requires : tie.Need-fill-keys-requires
+fill-keys-requires c κs = search needs
+
+told-requires : tie.Need-told-requires
+told-requires c κs = search needs
 
 same-length : tie.Need-same-length
 same-length c = search needs
-
-same-length-2 : tie.Need-same-length-2
-same-length-2 c = search needs
-
-same-length-3 : tie.Need-same-length-3
-same-length-3 c = search needs
 
 returns : tie.Need-returns
 returns c = (search same-tables, search all-served)
 
 pub serve-spec : {M : Type 1} → statement M
 serve-spec =
-    tie.close
-    (tie.spec
-    serve-rows-requires
-    serve-keys-requires
-    same-length
-    same-length-2
-    same-length-3
-    returns)
+    tie.close (tie.spec serve-rows-requires fill-keys-requires told-requires same-length returns)

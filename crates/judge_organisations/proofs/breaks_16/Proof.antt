@@ -1,6 +1,6 @@
 -- `judge_organisations::breaks_16` meets its contract.
 -- Assumes nothing.
-use Rattle.judge_organisations.proofs.Names.{wrong-duns, duns-not-judged}
+use Rattle.judge_organisations.proofs.Numbers.{wrong-duns, duns-not-judged}
 use borrow.Author.Needs.{needs}
 use Rattle.judge_organisations.proofs.breaks_16.Statement.{statement}
 use Rattle.judge_organisations.proofs.breaks_16.Tie as tie

@@ -27,8 +27,8 @@ is-said-requires c κs = search needs
 returns-3 : tie.Need-returns-3
 returns-3 c = search said-name
 
-is-name-requires : tie.Need-is-name-requires
-is-name-requires c κs = search needs
+is-one-name-requires : tie.Need-is-one-name-requires
+is-one-name-requires c κs = search needs
 
 returns-4 : tie.Need-returns-4
 returns-4 c = search empty-name
@@ -44,5 +44,5 @@ breaks-17-spec =
     returns-2
     is-said-requires
     returns-3
-    is-name-requires
+    is-one-name-requires
     returns-4)

@@ -5,8 +5,8 @@ use borrow.Author.Needs.{needs}
 use Rattle.judge_organisations.proofs.demand_18.Statement.{statement}
 use Rattle.judge_organisations.proofs.demand_18.Tie as tie
 
-is-name-requires : tie.Need-is-name-requires
-is-name-requires c κs = search needs
+is-one-name-requires : tie.Need-is-one-name-requires
+is-one-name-requires c κs = search needs
 
 is-said-requires : tie.Need-is-said-requires
 is-said-requires c κs = search needs
@@ -30,7 +30,7 @@ pub demand-18-spec : {M : Type 1} → statement M
 demand-18-spec =
     tie.close
     (tie.spec
-    is-name-requires
+    is-one-name-requires
     is-said-requires
     parent-requires
     row-of-requires

@@ -1,6 +1,6 @@
 -- `judge_organisations::duns_holds` meets its contract.
 -- Assumes nothing.
-use Rattle.judge_organisations.proofs.Ids.{duns-none, duns-one}
+use Rattle.judge_organisations.proofs.Numbers.{duns-none, duns-one}
 use borrow.Author.Needs.{needs}
 use Rattle.judge_organisations.proofs.duns_holds.Statement.{statement}
 use Rattle.judge_organisations.proofs.duns_holds.Tie as tie

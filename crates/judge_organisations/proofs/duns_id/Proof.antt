@@ -1,6 +1,6 @@
 -- `judge_organisations::duns_id` meets its contract.
 -- Assumes nothing.
-use Rattle.judge_organisations.proofs.Ids.{duns-is}
+use Rattle.judge_organisations.proofs.Numbers.{duns-is}
 use borrow.Author.Needs.{needs}
 use Rattle.judge_organisations.proofs.duns_id.Statement.{statement}
 use Rattle.judge_organisations.proofs.duns_id.Tie as tie

@@ -1,6 +1,6 @@
 -- `judge_organisations::has_extension` meets its contract.
 -- Assumes nothing.
-use Rattle.judge_organisations.proofs.Ids.{extension-there}
+use Rattle.judge_organisations.proofs.Numbers.{extension-there}
 use borrow.Author.Needs.{needs}
 use Rattle.judge_organisations.proofs.has_extension.Statement.{statement}
 use Rattle.judge_organisations.proofs.has_extension.Tie as tie

@@ -1,6 +1,6 @@
 -- `judge_organisations::is_said` meets its contract.
 -- Assumes nothing.
-use Rattle.judge_organisations.proofs.Ids.{text-there}
+use Rattle.judge_organisations.proofs.Names.{text-there}
 use borrow.Author.Needs.{needs}
 use Rattle.judge_organisations.proofs.is_said.Statement.{statement}
 use Rattle.judge_organisations.proofs.is_said.Tie as tie

@@ -8,14 +8,11 @@ use Rattle.judge_organisations.proofs.right_ids.Tie as tie
 how-many-requires : tie.Need-how-many-requires
 how-many-requires c κs = search needs
 
-is-role-requires : tie.Need-is-role-requires
-is-role-requires c κs = search needs
+role-at-requires : tie.Need-role-at-requires
+role-at-requires c κs = search needs
 
 returns : tie.Need-returns
 returns c = search labeler-ids
-
-is-role-requires-2 : tie.Need-is-role-requires-2
-is-role-requires-2 c κs = search needs
 
 returns-2 : tie.Need-returns-2
 returns-2 c = search establishment-ids
@@ -28,12 +25,4 @@ returns-4 c = search other-ids
 
 pub right-ids-spec : {M : Type 1} → statement M
 right-ids-spec =
-    tie.close
-    (tie.spec
-    how-many-requires
-    is-role-requires
-    returns
-    is-role-requires-2
-    returns-2
-    returns-3
-    returns-4)
+    tie.close (tie.spec how-many-requires role-at-requires returns returns-2 returns-3 returns-4)

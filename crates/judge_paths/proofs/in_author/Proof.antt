@@ -1,7 +1,6 @@
--- `judge_paths::in_author` meets its contract: a case for each type.
+-- `judge_paths::in_author` meets its contract.
 -- Assumes nothing.
-use Rattle.judge_paths.specs.Paths.{rowsOf, listed, childRole}
-use Rattle.judge_paths.proofs.Children.{of-type}
+use Rattle.judge_paths.proofs.Children.{of-type, author-registration, author-request, author-neither}
 use borrow.Author.Needs.{needs}
 use Rattle.judge_paths.proofs.in_author.Statement.{statement}
 use Rattle.judge_paths.proofs.in_author.Tie as tie
@@ -12,26 +11,35 @@ enum-told c = search needs
 enum-told-2 : tie.Need-enum-told-2
 enum-told-2 c = search needs
 
-in-typed-author-requires : tie.Need-in-typed-author-requires
-in-typed-author-requires c κs = search needs
+slice-aggregate-child-in : tie.Need-slice-aggregate-child-in
+slice-aggregate-child-in c = search needs
+
+slice-aggregate-child-in-2 : tie.Need-slice-aggregate-child-in-2
+slice-aggregate-child-in-2 c = search needs
+
+child-in-requires : tie.Need-child-in-requires
+child-in-requires c κs = search needs
 
 enum-told-3 : tie.Need-enum-told-3
 enum-told-3 c = search needs
 
-in-typed-author-requires-2 : tie.Need-in-typed-author-requires-2
-in-typed-author-requires-2 c κs = search needs
+slice-aggregate-child-in-3 : tie.Need-slice-aggregate-child-in-3
+slice-aggregate-child-in-3 c = search needs
+
+slice-aggregate-child-in-4 : tie.Need-slice-aggregate-child-in-4
+slice-aggregate-child-in-4 c = search needs
+
+child-in-requires-2 : tie.Need-child-in-requires-2
+child-in-requires-2 c κs = search needs
 
 returns : tie.Need-returns
-unfolding rowsOf listed childRole
-returns c = search of-type
+returns c = search (of-type, author-registration, author-request, author-neither, needs)
 
 returns-2 : tie.Need-returns-2
-unfolding rowsOf listed childRole
-returns-2 c = search of-type
+returns-2 c = search (of-type, author-registration, author-request, author-neither, needs)
 
 returns-3 : tie.Need-returns-3
-unfolding rowsOf listed childRole
-returns-3 c = search of-type
+returns-3 c = search (of-type, author-registration, author-request, author-neither, needs)
 
 pub in-author-spec : {M : Type 1} → statement M
 in-author-spec =
@@ -39,9 +47,13 @@ in-author-spec =
     (tie.spec
     enum-told
     enum-told-2
-    in-typed-author-requires
+    slice-aggregate-child-in
+    slice-aggregate-child-in-2
+    child-in-requires
     enum-told-3
-    in-typed-author-requires-2
+    slice-aggregate-child-in-3
+    slice-aggregate-child-in-4
+    child-in-requires-2
     returns
     returns-2
     returns-3)

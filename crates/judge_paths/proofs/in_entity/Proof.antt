@@ -1,35 +1,95 @@
--- `judge_paths::in_entity` meets its contract: it asks for each name that is listed in turn.
+-- `judge_paths::in_entity` meets its contract.
 -- Assumes nothing.
-use Rattle.judge_paths.proofs.Chains.{is-child, is-else}
+use Rattle.judge_paths.proofs.Children.{of-parent, entity-2-words, entity-3-words, entity-4-words, performance-words, act-definition-words, no-entity}
 use borrow.Author.Needs.{needs}
 use Rattle.judge_paths.proofs.in_entity.Statement.{statement}
 use Rattle.judge_paths.proofs.in_entity.Tie as tie
 
-slice-aggregate-same : tie.Need-slice-aggregate-same
-slice-aggregate-same c = search needs
+slice-aggregate-child-in : tie.Need-slice-aggregate-child-in
+slice-aggregate-child-in c = search needs
 
-same-requires : tie.Need-same-requires
-same-requires c κs = search needs
+slice-aggregate-child-in-2 : tie.Need-slice-aggregate-child-in-2
+slice-aggregate-child-in-2 c = search needs
+
+child-in-requires : tie.Need-child-in-requires
+child-in-requires c κs = search needs
 
 returns : tie.Need-returns
-returns c = search is-child
+returns c = search (of-parent, entity-2-words, entity-3-words, entity-4-words, performance-words, act-definition-words, no-entity, needs)
 
-slice-aggregate-only : tie.Need-slice-aggregate-only
-slice-aggregate-only c = search needs
+slice-aggregate-child-in-3 : tie.Need-slice-aggregate-child-in-3
+slice-aggregate-child-in-3 c = search needs
 
-only-requires : tie.Need-only-requires
-only-requires c κs = search needs
+slice-aggregate-child-in-4 : tie.Need-slice-aggregate-child-in-4
+slice-aggregate-child-in-4 c = search needs
+
+child-in-requires-2 : tie.Need-child-in-requires-2
+child-in-requires-2 c κs = search needs
 
 returns-2 : tie.Need-returns-2
-returns-2 c = search is-else
+returns-2 c = search (of-parent, entity-2-words, entity-3-words, entity-4-words, performance-words, act-definition-words, no-entity, needs)
+
+slice-aggregate-child-in-5 : tie.Need-slice-aggregate-child-in-5
+slice-aggregate-child-in-5 c = search needs
+
+slice-aggregate-child-in-6 : tie.Need-slice-aggregate-child-in-6
+slice-aggregate-child-in-6 c = search needs
+
+child-in-requires-3 : tie.Need-child-in-requires-3
+child-in-requires-3 c κs = search needs
+
+returns-3 : tie.Need-returns-3
+returns-3 c = search (of-parent, entity-2-words, entity-3-words, entity-4-words, performance-words, act-definition-words, no-entity, needs)
+
+slice-aggregate-child-in-7 : tie.Need-slice-aggregate-child-in-7
+slice-aggregate-child-in-7 c = search needs
+
+slice-aggregate-child-in-8 : tie.Need-slice-aggregate-child-in-8
+slice-aggregate-child-in-8 c = search needs
+
+child-in-requires-4 : tie.Need-child-in-requires-4
+child-in-requires-4 c κs = search needs
+
+returns-4 : tie.Need-returns-4
+returns-4 c = search (of-parent, entity-2-words, entity-3-words, entity-4-words, performance-words, act-definition-words, no-entity, needs)
+
+slice-aggregate-child-in-9 : tie.Need-slice-aggregate-child-in-9
+slice-aggregate-child-in-9 c = search needs
+
+slice-aggregate-child-in-10 : tie.Need-slice-aggregate-child-in-10
+slice-aggregate-child-in-10 c = search needs
+
+child-in-requires-5 : tie.Need-child-in-requires-5
+child-in-requires-5 c κs = search needs
+
+returns-5 : tie.Need-returns-5
+returns-5 c = search (of-parent, entity-2-words, entity-3-words, entity-4-words, performance-words, act-definition-words, no-entity, needs)
+
+returns-6 : tie.Need-returns-6
+returns-6 c = search (of-parent, entity-2-words, entity-3-words, entity-4-words, performance-words, act-definition-words, no-entity, needs)
 
 pub in-entity-spec : {M : Type 1} → statement M
 in-entity-spec =
     tie.close
     (tie.spec
-    slice-aggregate-same
-    same-requires
+    slice-aggregate-child-in
+    slice-aggregate-child-in-2
+    child-in-requires
     returns
-    slice-aggregate-only
-    only-requires
-    returns-2)
+    slice-aggregate-child-in-3
+    slice-aggregate-child-in-4
+    child-in-requires-2
+    returns-2
+    slice-aggregate-child-in-5
+    slice-aggregate-child-in-6
+    child-in-requires-3
+    returns-3
+    slice-aggregate-child-in-7
+    slice-aggregate-child-in-8
+    child-in-requires-4
+    returns-4
+    slice-aggregate-child-in-9
+    slice-aggregate-child-in-10
+    child-in-requires-5
+    returns-5
+    returns-6)

@@ -1,6 +1,6 @@
 -- `judge_registrations::breaks_31` meets its contract.
 -- Assumes nothing.
-use Rattle.judge_registrations.proofs.Levels.{other-31, request-31, none-31, one-31}
+use Rattle.judge_registrations.proofs.Levels.{other-31, none-31, one-31}
 use borrow.Author.Needs.{needs}
 use borrow.Author.Tests.{not-true, not-false}
 use Rattle.judge_registrations.proofs.breaks_31.Statement.{statement}
@@ -12,12 +12,6 @@ is-role-requires c κs = search needs
 returns : tie.Need-returns
 returns c = search (other-31, not-true)
 
-is-request-requires : tie.Need-is-request-requires
-is-request-requires c κs = search needs
-
-returns-2 : tie.Need-returns-2
-returns-2 c = search (request-31, not-false)
-
 only-requires : tie.Need-only-requires
 only-requires c κs = search needs
 
@@ -27,11 +21,11 @@ enum-told c = search needs
 enum-told-2 : tie.Need-enum-told-2
 enum-told-2 c = search needs
 
-returns-3 : tie.Need-returns-3
-returns-3 c = search (none-31, not-false)
+returns-2 : tie.Need-returns-2
+returns-2 c = search (none-31, not-false)
 
-returns-4 : tie.Need-returns-4
-returns-4 c = search (one-31, not-false)
+returns-3 : tie.Need-returns-3
+returns-3 c = search (one-31, not-false)
 
 pub breaks-31-spec : {M : Type 1} → statement M
 breaks-31-spec =
@@ -39,10 +33,8 @@ breaks-31-spec =
     (tie.spec
     is-role-requires
     returns
-    is-request-requires
-    returns-2
     only-requires
     enum-told
     enum-told-2
-    returns-3
-    returns-4)
+    returns-2
+    returns-3)

@@ -11,11 +11,8 @@ is-role-requires c κs = search needs
 has-type-requires : tie.Need-has-type-requires
 has-type-requires c κs = search needs
 
-only-requires : tie.Need-only-requires
-only-requires c κs = search needs
-
-is-one-requires : tie.Need-is-one-requires
-is-one-requires c κs = search needs
+has-one-labeler-requires : tie.Need-has-one-labeler-requires
+has-one-labeler-requires c κs = search needs
 
 returns : tie.Need-returns
 returns c = search thirteen-labelers
@@ -32,8 +29,7 @@ breaks-13-spec =
     (tie.spec
     is-role-requires
     has-type-requires
-    only-requires
-    is-one-requires
+    has-one-labeler-requires
     returns
     returns-2
     returns-3)

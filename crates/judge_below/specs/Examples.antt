@@ -1,0 +1,45 @@
+-- Worked examples of the definitions, each computed.
+-- Assumes nothing.
+use Prim.Native.Nat.{ℕ}
+use mathlib.Core.Path.{_≡_, refl}
+use mathlib.Core.List.{List, [], _∷_, _++_}
+use Rattle.text_scan.specs.declared.Found.the-variants.{At, Nothing}
+use Rattle.xml_steps.specs.Reading.{row}
+use Rattle.judge_paths.specs.Roles.{Unknown, Unlisted, Root, Id, Author, Entity1, Labeler}
+use Rattle.judge_below.specs.declared.Test.the-variants.{Any}
+use Rattle.judge_draft.specs.Drafts.{Draft, draft, is}
+use Rattle.judge_below.specs.Chosen.{passes, ancestor, wants, placed, within, chosenFrom, chosen, wanted, kids, firstOne, onlyOne, onlyKid}
+
+-- two ids of the root, and one in an element that is not listed; and a labeler
+abbrev its : Draft
+its =
+    draft []
+    (row Root 0 0 105 ++ row Id 0 3 8 ++ row Unlisted 0 8 20 ++ row Unknown 2 11 16 ++ row Id 0 20 25 ++ row Author 0 25 101
+    ++ row Entity1 5 33 92 ++ row Labeler 6 49 75)
+
+its-ids : kids its 0 Id ≡ 1 ∷ 4 ∷ []
+unfolding draft is passes ancestor wants placed within chosenFrom chosen
+its-ids = refl
+
+-- of two ids none is the only one
+no-one-id : onlyKid its 0 Id ≡ Nothing
+unfolding draft is passes ancestor wants placed within chosenFrom chosen
+no-one-id = refl
+
+second-id : firstOne (chosenFrom its (wanted Id 1 Any) 0 2) ≡ At 4
+unfolding draft is passes ancestor wants placed within chosenFrom chosen
+second-id = refl
+
+the-labeler : onlyOne (chosen its (wanted Labeler 3 Any) 0) ≡ At 7
+unfolding draft is passes ancestor wants placed within chosenFrom chosen
+the-labeler = refl
+
+-- it stands two levels below author, and is no child of it
+no-labeler-child : kids its 5 Labeler ≡ []
+unfolding draft is passes ancestor wants placed within chosenFrom chosen
+no-labeler-child = refl
+
+-- the root is no child of its own
+no-root-child : kids its 0 Root ≡ []
+unfolding draft is passes ancestor wants placed within chosenFrom chosen
+no-root-child = refl

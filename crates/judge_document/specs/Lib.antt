@@ -1,0 +1,3 @@
+pub mod Drafted
+pub mod Room
+pub mod Sized
