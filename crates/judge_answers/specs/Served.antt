@@ -1,12 +1,13 @@
 -- The run that the rows of each section are looked up in, and what is known of the keys of the document's set id. For the code's own functions:
 -- it changes no answer.
 -- Assumes nothing.
-use Prim.Native.Nat.{ℕ, _*_, _<_}
+use Prim.Native.Nat.{ℕ, _*_, _<_, _+_}
 use mathlib.Core.Bool.{Bool}
 use mathlib.Core.List.{List, []}
 use mathlib.Core.Path.{_≡_}
 use lib.Dec.{eqb, leb, ltb}
 use lib.ListN.{length, take, drop}
+use Rattle.xml_reader.specs.Limits.{rowsLimit}
 use Rattle.text_scan.specs.Choice.{pick, _and_}
 use Rattle.text_scan.specs.Bytes.{text}
 use Rattle.table_index.specs.declared.Lookup.the-variants.{Code, Name, KeyElsewhere}
@@ -22,7 +23,7 @@ use Rattle.judge_answers.specs.Answers.{typeCode}
 
 -- one run has the places of the code list's rows, then those of the register's, then those of the keys', in as much room each; a shorter run has none
 abbrev pub room : ℕ
-room = 65536
+room = rowsLimit + 1
 
 unfoldable pub partOf : List ℕ → ℕ → List ℕ
 partOf x i = pick (leb (3 * room) (length x)) (take room (drop (i * room) x)) []

@@ -15,6 +15,7 @@ use judge_draft::Demand;
 use judge_draft::first_byte;
 use judge_paths::DocumentType;
 use table_sets::Keys;
+use xml_reader::Reader;
 
 // Where the rows of each section of a tables file stand, and how many there are; the type and the setId whose keys in the history are indexed, where
 // its first row stands, and whether its rows have several keys.
@@ -32,7 +33,7 @@ pub struct Places {
 }
 
 // How long a part of the run is: a count, and a place for each row that a section may have.
-pub const SIZE: usize = 65536;
+pub const SIZE: usize = Reader::ROWS + 1;
 
 // The run's part of number i: the places of the code list's rows, of the register's, of the keys. A run that is too short has none.
 fn part(index: &[u32], i: usize) -> &[u32]

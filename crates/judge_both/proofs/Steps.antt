@@ -14,13 +14,13 @@ use Rattle.list_findings.specs.Findings.{width, flat}
 use Rattle.list_findings.specs.Merge.{IsMerged, mergeOf}
 use Rattle.list_findings.proofs.Records.{length-flat}
 use Rattle.table_join.specs.Joins.{Joins}
-use Rattle.judge_document.specs.declared.Answer.{Answer}
-use Rattle.judge_document.specs.declared.Answer.the-variants.{Findings, Refused}
+use Rattle.judge_findings.specs.declared.Answer.{Answer}
+use Rattle.judge_findings.specs.declared.Answer.the-variants.{Findings, Refused}
 use Rattle.judge_check.specs.Check.{Outcome, checkOf}
 use Rattle.judge_check.specs.Check.{Leaves as Checks}
-use Rattle.judge_check.specs.Accepted.{foundIn, Accepted}
-use Rattle.judge_check.proofs.Demand2.{accepted-check}
-use Rattle.judge_check.proofs.Demand3.{demand-3}
+use Rattle.judge_promises.specs.Accepted.{foundIn, Accepted}
+use Rattle.judge_promises.proofs.Demand2.{accepted-check}
+use Rattle.judge_promises.proofs.Demand3.{demand-3}
 use Rattle.judge_both.specs.Both.{Both, asAnswer, merging, afterFirst, afterSecond, bothOf, Leaves}
 
 module _ (m : Merged) where

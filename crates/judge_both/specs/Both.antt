@@ -8,8 +8,8 @@ use Rattle.list_findings.specs.declared.Merged.{Merged}
 use Rattle.list_findings.specs.declared.Merged.the-variants.{Findings as Kept, Refused as NotMerged}
 use Rattle.list_findings.specs.Findings.{width}
 use Rattle.list_findings.specs.Merge.{Merging, mergeOf}
-use Rattle.judge_document.specs.declared.Answer.{Answer}
-use Rattle.judge_document.specs.declared.Answer.the-variants.{Findings, Refused}
+use Rattle.judge_findings.specs.declared.Answer.{Answer}
+use Rattle.judge_findings.specs.declared.Answer.the-variants.{Findings, Refused}
 use Rattle.judge_check.specs.Check.{Outcome as Checked, checkOf}
 
 -- the merge's answer, as the check's

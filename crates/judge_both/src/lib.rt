@@ -5,7 +5,7 @@ ghost use lib.ListN.{length};
 ghost use Rattle.list_findings.specs.Findings.{width};
 ghost use Rattle.judge_check.specs.Check.{checkOf};
 ghost use Rattle.judge_both.specs.Both.{asAnswer, merging, afterSecond, bothOf, Leaves};
-use judge_document::Answer;
+use judge_findings::Answer;
 use list_findings::Merged;
 
 // The merge's answer, as the check's.

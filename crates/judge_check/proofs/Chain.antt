@@ -24,12 +24,12 @@ use Rattle.judge_paths.specs.declared.DocumentType.the-variants.{Neither}
 use Rattle.judge_answers.specs.declared.Places.{Places}
 use Rattle.judge_answers.specs.Answers.{tablesAt}
 use Rattle.judge_findings.specs.Listed.{findingsOf}
-use Rattle.judge_document.specs.declared.Answer.{Answer}
-use Rattle.judge_document.specs.declared.Answer.the-variants.{Findings, Refused}
+use Rattle.judge_findings.specs.declared.Answer.{Answer}
+use Rattle.judge_findings.specs.declared.Answer.the-variants.{Findings, Refused}
 use Rattle.judge_document.specs.Drafted.{draftOf}
 use Rattle.judge_check.specs.Long.{longValue}
-use Rattle.judge_document.specs.Room.{answerIn, listIn}
-use Rattle.judge_check.specs.Check.{Outcome, cleared, judged, underFile, checkOf, Leaves}
+use Rattle.judge_findings.specs.Room.{answerIn, listIn, FindingsLeft}
+use Rattle.judge_check.specs.Check.{Outcome, cleared, afterReading, underFile, checkOf, Leaves}
 use Rattle.judge_check.proofs.Values.{none-long}
 
 -- ---- what a reading answered
@@ -60,7 +60,7 @@ read-as s table (elements n rows) e a after l count f = go (leb (4 * n) (length 
     go false q g h = refused-not-elements count 9 n (sym g ∙ f)
 
 -- ---- a document that is not read
-not-read : (s : List ℕ) (t : Tables) (scratch table list : List ℕ) (x : Read) (a : Reading) (after : List ℕ) → Reads x table a after → (number place : ℕ) → a ≡ NotRead number place → Leaves (judged s t scratch table list x) (Refused number place) scratch after list
+not-read : (s : List ℕ) (t : Tables) (scratch table list : List ℕ) (x : Read) (a : Reading) (after : List ℕ) → Reads x table a after → (number place : ℕ) → a ≡ NotRead number place → Leaves (afterReading s t scratch table list x) (Refused number place) scratch after list
 not-read s t scratch table list (refused n p) a after l number place f =
     let i : n ≡ number = first n p number place (sym (l .answers) ∙ f) in
     let j : p ≡ place = second n p number place (sym (l .answers) ∙ f) in
@@ -73,7 +73,7 @@ not-read s t scratch table list (refused n p) a after l number place f =
     second n p m q e = cc
 not-read s t scratch table list (elements n rows) a after l number place f = go (leb (4 * n) (length table)) refl (l .answers) (l .leaves)
   where
-    go : (b : Bool) → leb (4 * n) (length table) ≡ b → a ≡ pick b (Elements n) (NotRead 9 n) → after ≡ pick b (rows ++ drop (4 * n) table) table → Leaves (judged s t scratch table list (elements n rows)) (Refused number place) scratch after list
+    go : (b : Bool) → leb (4 * n) (length table) ≡ b → a ≡ pick b (Elements n) (NotRead 9 n) → after ≡ pick b (rows ++ drop (4 * n) table) table → Leaves (afterReading s t scratch table list (elements n rows)) (Refused number place) scratch after list
     go true q g h = elements-not-refused n number place (sym g ∙ f)
     go false q g h =
         let i : 9 ≡ number = first 9 n number place (sym g ∙ f) in
@@ -87,7 +87,7 @@ not-read s t scratch table list (elements n rows) a after l number place f = go 
         second n p m q e = cc
 
 module _ (s table : List ℕ) (a : Reading) (after : List ℕ) (l : Reads (elementsOf s) table a after) where
-  pub under-refused : (number place : ℕ) → a ≡ NotRead number place → (t : Tables) (scratch list : List ℕ) → Leaves (judged s t scratch table list (elementsOf s)) (Refused number place) scratch after list
+  pub under-refused : (number place : ℕ) → a ≡ NotRead number place → (t : Tables) (scratch list : List ℕ) → Leaves (afterReading s t scratch table list (elementsOf s)) (Refused number place) scratch after list
   under-refused number place f t scratch list = not-read s t scratch table list (elementsOf s) a after l number place f
 
   -- ---- a document that is read
@@ -115,13 +115,13 @@ module _ (s table : List ℕ) (a : Reading) (after : List ℕ) (l : Reads (eleme
     pub under-few : length (take (4 * count - 0) after) / 4 ≤ elementsLimit
     under-few = omega (arith, ap length front, its-rows .wide, its-rows .few)
 
-    pub under-judged : (t : Tables) (scratch scratch′ list list′ : List ℕ) (r : Answer) → scratch′ ≡ cleared scratch → r ≡ answerIn (findingsOf (draftOf s (take (4 * count - 0) after)) t) list → list′ ≡ listIn (findingsOf (draftOf s (take (4 * count - 0) after)) t) list → Leaves (judged s t scratch table list (elementsOf s)) r scratch′ after list′
-    under-judged t scratch scratch′ list list′ r g h i =
+    pub under-judged : (t : Tables) (scratch scratch′ list list′ : List ℕ) (r : Answer) → scratch′ ≡ cleared scratch → FindingsLeft (findingsOf (draftOf s (take (4 * count - 0) after)) t) list r list′ → Leaves (afterReading s t scratch table list (elementsOf s)) r scratch′ after list′
+    under-judged t scratch scratch′ list list′ r g h =
         rw (its .is, le-leb (4 * count) (length table) (its .room), none-long s (its .rows)) record {
-          answers = h ∙ ap (λ x. answerIn (findingsOf (draftOf s x) t) list) front;
+          answers = h .answers ∙ ap (λ x. answerIn (findingsOf (draftOf s x) t) list) front;
           scratches = g;
           tables = its .now-is;
-          lists = i ∙ ap (λ x. listIn (findingsOf (draftOf s x) t) list) front;
+          lists = h .lists ∙ ap (λ x. listIn (findingsOf (draftOf s x) t) list) front;
         }
 
 -- ---- the chain
@@ -148,7 +148,7 @@ module _ (s file scratch table list : List ℕ) where
         pub refused-4 : (place : ℕ) → x ≡ Accepted.Refused place → Leaves (checkOf s file scratch table list) (Refused 4 place) scratch table list
         refused-4 place f = rw (come, f) record { answers = refl; scratches = refl; tables = refl; lists = refl }
 
-        pub all-accepted : (c cs n ns h hs : ℕ) → x ≡ Accepted.Tables c cs n ns h hs → (r : Answer) (scratch′ table′ list′ : List ℕ) → Leaves (judged s (tablesAt file (record { codes = c; ncodes = cs; names = n; nnames = ns; history = h; nhistory = hs; kind = Neither; set = 0; first = 0; several = false })) scratch table list (elementsOf s)) r scratch′ table′ list′ → Leaves (checkOf s file scratch table list) r scratch′ table′ list′
+        pub all-accepted : (c cs n ns h hs : ℕ) → x ≡ Accepted.Tables c cs n ns h hs → (r : Answer) (scratch′ table′ list′ : List ℕ) → Leaves (afterReading s (tablesAt file (record { codes = c; ncodes = cs; names = n; nnames = ns; history = h; nhistory = hs; kind = Neither; set = 0; first = 0; several = false })) scratch table list (elementsOf s)) r scratch′ table′ list′ → Leaves (checkOf s file scratch table list) r scratch′ table′ list′
         unfolding tablesOf
         all-accepted c cs n ns h hs f r scratch′ table′ list′ l =
             let g : accepted file ≡ Accepted.Tables c cs n ns h hs = sym e ∙ f in

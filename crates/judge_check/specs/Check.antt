@@ -14,10 +14,10 @@ use Rattle.table_file.specs.Accepted.{Tables, accepted, tablesOf}
 use Rattle.xml_steps.specs.Reading.{Read, refused, elements}
 use Rattle.xml_elements.specs.Elements.{elementsOf}
 use Rattle.judge_findings.specs.Listed.{findingsOf}
-use Rattle.judge_document.specs.declared.Answer.{Answer}
-use Rattle.judge_document.specs.declared.Answer.the-variants.{Refused}
+use Rattle.judge_findings.specs.declared.Answer.{Answer}
+use Rattle.judge_findings.specs.declared.Answer.the-variants.{Refused}
 use Rattle.judge_document.specs.Drafted.{draftOf}
-use Rattle.judge_document.specs.Room.{answerIn, listIn}
+use Rattle.judge_findings.specs.Room.{answerIn, listIn}
 use Rattle.judge_check.specs.Long.{longValue}
 
 -- what a check answers, and what the scratch area, the element table and the findings list then hold
@@ -45,9 +45,9 @@ abbrev pub refuse : List ℕ → List ℕ → List ℕ → ℕ → ℕ → Outco
 refuse scratch table list number value = record { answer = Refused number value; scratch = scratch; table = table; list = list }
 
 -- 5 to 8, and 9: elements needed. Then the table is filled, and the scratch area cleared
-abbrev pub judged : List ℕ → Tables → List ℕ → List ℕ → List ℕ → Read → Outcome
-judged document t scratch table list (refused number place) = refuse scratch table list number place
-judged document t scratch table list (elements n rows) =
+abbrev pub afterReading : List ℕ → Tables → List ℕ → List ℕ → List ℕ → Read → Outcome
+afterReading document t scratch table list (refused number place) = refuse scratch table list number place
+afterReading document t scratch table list (elements n rows) =
     pick (leb (4 * n) (length table))
     (unlessLong (longValue document rows) (cleared scratch) (rows ++ drop (4 * n) table) list
     (record {
@@ -62,7 +62,7 @@ judged document t scratch table list (elements n rows) =
 abbrev pub underFile : List ℕ → List ℕ → List ℕ → List ℕ → List ℕ → Accepted → Outcome
 underFile document file scratch table list (Accepted.Refused place) = refuse scratch table list 4 place
 underFile document file scratch table list (Accepted.Tables c cs r rs h hs) =
-    judged document (tablesOf file) scratch table list (elementsOf document)
+    afterReading document (tablesOf file) scratch table list (elementsOf document)
 
 -- 1, 2 and 3: the length of the document, that of the tables, and 4,096
 unfoldable pub checkOf : List ℕ → List ℕ → List ℕ → List ℕ → List ℕ → Outcome

@@ -1,4 +1,2 @@
-pub mod Suits
 pub mod Long
 pub mod Check
-pub mod Accepted

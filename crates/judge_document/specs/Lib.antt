@@ -1,3 +1,2 @@
 pub mod Drafted
-pub mod Room
-pub mod Sized
+pub mod Typed

@@ -1,137 +1,22 @@
-// The findings of a document that was read, under tables that were accepted.
+// The findings of a document that was read, under tables that were accepted: its type is told, and its notes are taken.
 ghost use mathlib.Core.Path.{_≡_};
-ghost use mathlib.Core.Bool.{true};
 ghost use Prim.Native.Nat.{_*_, _/_, _≤_};
 ghost use lib.ListN.{length};
 ghost use Rattle.xml_reader.specs.Limits.{elementsLimit};
-ghost use Rattle.judge_draft.specs.Drafts.{draft};
-ghost use Rattle.judge_header.specs.Header.{headerOf};
 ghost use Rattle.judge_answers.specs.Answers.{tablesAt};
-ghost use Rattle.judge_answers.specs.Served.{room, Served};
-ghost use Rattle.judge_document.specs.Sized.{Sized, placesFor};
 ghost use Rattle.judge_findings.specs.Listed.{findingsOf};
+ghost use Rattle.judge_findings.specs.Room.{FindingsLeft};
 ghost use Rattle.judge_document.specs.Drafted.{draftAs, typeIn, draftOf};
-ghost use Rattle.judge_document.specs.Room.{answerIn, listIn};
+ghost use Rattle.judge_document.specs.Typed.{few, placesFor};
 use judge_answers::Places;
-use judge_header::Header;
+use judge_findings::Answer;
 use judge_paths::DocumentType;
-use text_scan::Found;
 use xml_reader::Reader;
 
-// How many findings there are, or a refusal's number with what it returns.
-pub enum Answer {
-    Findings(usize),
-    Refused(u32, usize),
-}
+// The elements of a small document: a room has to be cleared, so these have a small one.
+const FEW: usize = 512;
 
-// Marks each element once, and writes the list where there is room for it.
-fn judge_draft(
-    document: &[u8],
-    notes: &[u32],
-    header: Header,
-    tables: &[u8],
-    places: Places,
-    index: &[u32],
-    marks: &mut [u64],
-    list: &mut [u32],
-) -> Answer
-    requires { ⌜ (header ≡ headerOf (draft (now document) (now notes))) × (length (now notes) / 4 ≤ length (now marks)) × (length (now marks) ≤ elementsLimit) × Served (draft (now document) (now notes)) (now tables) places (now index) ⌝ }
-    ensures { λ r. ⌜ (r ≡ answerIn (findingsOf (draft (now (document .entry)) (now (notes .entry))) (tablesAt (now (tables .entry)) places)) (now (list .entry))) × (now (list .exit) ≡ listIn (findingsOf (draft (now (document .entry)) (now (notes .entry))) (tablesAt (now (tables .entry)) places)) (now (list .entry))) ⌝ }
-{
-    let total = judge_asking::fill(document, notes, header, tables, places, index, marks);
-    if list.len() / list_findings::WIDTH < total {
-        return Answer::Refused(11, total);
-    }
-    let count = notes.len() / 4;
-    judge_marks::write(document, notes, &marks[0..count], list);
-    Answer::Findings(total)
-}
-
-// The number of the one element, or of the root.
-fn number_of(found: Found) -> usize {
-    match found {
-        Found::Nothing => 0,
-        Found::At(k) => k,
-    }
-}
-
-// The same, with the rows of the tables indexed before, in a run that is lent.
-fn judge_served(
-    document: &[u8],
-    notes: &[u32],
-    header: Header,
-    tables: &[u8],
-    places: Places,
-    index: &mut [u32],
-    marks: &mut [u64],
-    list: &mut [u32],
-) -> Answer
-    requires { ⌜ (header ≡ headerOf (draft (now document) (now notes))) × (length (now notes) / 4 ≤ length (now marks)) × (length (now marks) ≤ elementsLimit) × (3 * room ≤ length (now index)) × Sized (now tables) places ⌝ }
-    ensures { λ r. ⌜ (r ≡ answerIn (findingsOf (draft (now (document .entry)) (now (notes .entry))) (tablesAt (now (tables .entry)) places)) (now (list .entry))) × (now (list .exit) ≡ listIn (findingsOf (draft (now (document .entry)) (now (notes .entry))) (tablesAt (now (tables .entry)) places)) (now (list .entry))) ⌝ }
-{
-    let one = header.set;
-    let set = number_of(one);
-    let kind = places.kind;
-    let served = judge_lookup::serve(document, notes, tables, places, kind, set, index);
-    judge_draft(document, notes, header, tables, served, index, marks, list)
-}
-
-// The same in a run of its own.
-fn judge_indexed(
-    document: &[u8],
-    notes: &[u32],
-    header: Header,
-    tables: &[u8],
-    places: Places,
-    marks: &mut [u64],
-    list: &mut [u32],
-) -> Answer
-    requires { ⌜ (header ≡ headerOf (draft (now document) (now notes))) × (length (now notes) / 4 ≤ length (now marks)) × (length (now marks) ≤ elementsLimit) × Sized (now tables) places ⌝ }
-    ensures { λ r. ⌜ (r ≡ answerIn (findingsOf (draft (now (document .entry)) (now (notes .entry))) (tablesAt (now (tables .entry)) places)) (now (list .entry))) × (now (list .exit) ≡ listIn (findingsOf (draft (now (document .entry)) (now (notes .entry))) (tablesAt (now (tables .entry)) places)) (now (list .entry))) ⌝ }
-{
-    let mut index = [0u32; 196608];
-    judge_served(
-        document,
-        notes,
-        header,
-        tables,
-        places,
-        &mut index,
-        marks,
-        list,
-    )
-}
-
-// The same, where an index is worth it with one.
-fn judge_by_size(
-    document: &[u8],
-    notes: &[u32],
-    tables: &[u8],
-    places: Places,
-    marks: &mut [u64],
-    list: &mut [u32],
-) -> Answer
-    requires { ⌜ (length (now notes) / 4 ≤ length (now marks)) × (length (now marks) ≤ elementsLimit) ⌝ }
-    ensures { λ r. ⌜ (r ≡ answerIn (findingsOf (draft (now (document .entry)) (now (notes .entry))) (tablesAt (now (tables .entry)) places)) (now (list .entry))) × (now (list .exit) ≡ listIn (findingsOf (draft (now (document .entry)) (now (notes .entry))) (tablesAt (now (tables .entry)) places)) (now (list .entry))) ⌝ }
-{
-    let header = judge_header::header_of(document, notes);
-    let asked = judge_lookup::how_many_ask(notes);
-    if judge_lookup::is_large(asked, tables.len(), places) {
-        return judge_indexed(document, notes, header, tables, places, marks, list);
-    }
-    judge_draft(
-        document,
-        notes,
-        header,
-        tables,
-        places,
-        &notes[0..0],
-        marks,
-        list,
-    )
-}
-
-// The same of a document of the type that is told by the places, whose notes are taken first.
+// The findings of a document of the type that is told by the places, whose notes are taken first.
 fn judge_typed(
     document: &[u8],
     elements: &[u32],
@@ -142,12 +27,12 @@ fn judge_typed(
     list: &mut [u32],
 ) -> Answer
     requires { ⌜ (4 * (length (now elements) / 4) ≤ length (now notes)) × (length (now elements) / 4 ≤ length (now marks)) × (length (now marks) ≤ elementsLimit) ⌝ }
-    ensures { λ r. ⌜ (r ≡ answerIn (findingsOf (draftAs (places .kind) (now (document .entry)) (now (elements .entry))) (tablesAt (now (tables .entry)) places)) (now (list .entry))) × (now (list .exit) ≡ listIn (findingsOf (draftAs (places .kind) (now (document .entry)) (now (elements .entry))) (tablesAt (now (tables .entry)) places)) (now (list .entry))) ⌝ }
+    ensures { λ r. ⌜ FindingsLeft (findingsOf (draftAs (places .kind) (now (document .entry)) (now (elements .entry))) (tablesAt (now (tables .entry)) places)) (now (list .entry)) r (now (list .exit)) ⌝ }
 {
     let kind = places.kind;
     judge_notes::fill(document, elements, kind, notes);
     let end = 4 * (elements.len() / 4);
-    judge_by_size(document, &notes[0..end], tables, places, marks, list)
+    judge_noted::judge(document, &notes[0..end], tables, places, marks, list)
 }
 
 // The type of a document, by its header.
@@ -191,7 +76,7 @@ fn judge_within(
     list: &mut [u32],
 ) -> Answer
     requires { ⌜ (4 * (length (now elements) / 4) ≤ length (now notes)) × (length (now elements) / 4 ≤ length (now marks)) × (length (now marks) ≤ elementsLimit) ⌝ }
-    ensures { λ r. ⌜ (r ≡ answerIn (findingsOf (draftOf (now (document .entry)) (now (elements .entry))) (tablesAt (now (tables .entry)) places)) (now (list .entry))) × (now (list .exit) ≡ listIn (findingsOf (draftOf (now (document .entry)) (now (elements .entry))) (tablesAt (now (tables .entry)) places)) (now (list .entry))) ⌝ }
+    ensures { λ r. ⌜ FindingsLeft (findingsOf (draftOf (now (document .entry)) (now (elements .entry))) (tablesAt (now (tables .entry)) places)) (now (list .entry)) r (now (list .exit)) ⌝ }
 {
     let kind = type_in(document, elements, notes);
     judge_typed(
@@ -205,7 +90,7 @@ fn judge_within(
     )
 }
 
-// The same of few elements, with room for these: a room has to be cleared.
+// The same of few elements, with room for these.
 fn judge_small(
     document: &[u8],
     elements: &[u32],
@@ -213,11 +98,11 @@ fn judge_small(
     places: Places,
     list: &mut [u32],
 ) -> Answer
-    requires { ⌜ length (now elements) / 4 ≤ 512 ⌝ }
-    ensures { λ r. ⌜ (r ≡ answerIn (findingsOf (draftOf (now (document .entry)) (now (elements .entry))) (tablesAt (now (tables .entry)) places)) (now (list .entry))) × (now (list .exit) ≡ listIn (findingsOf (draftOf (now (document .entry)) (now (elements .entry))) (tablesAt (now (tables .entry)) places)) (now (list .entry))) ⌝ }
+    requires { ⌜ length (now elements) / 4 ≤ few ⌝ }
+    ensures { λ r. ⌜ FindingsLeft (findingsOf (draftOf (now (document .entry)) (now (elements .entry))) (tablesAt (now (tables .entry)) places)) (now (list .entry)) r (now (list .exit)) ⌝ }
 {
-    let mut notes = [0u32; 2048];
-    let mut marks = [0u64; 512];
+    let mut notes = [0u32; 4 * FEW];
+    let mut marks = [0u64; FEW];
     judge_within(
         document,
         elements,
@@ -238,7 +123,7 @@ fn judge_large(
     list: &mut [u32],
 ) -> Answer
     requires { ⌜ length (now elements) / 4 ≤ elementsLimit ⌝ }
-    ensures { λ r. ⌜ (r ≡ answerIn (findingsOf (draftOf (now (document .entry)) (now (elements .entry))) (tablesAt (now (tables .entry)) places)) (now (list .entry))) × (now (list .exit) ≡ listIn (findingsOf (draftOf (now (document .entry)) (now (elements .entry))) (tablesAt (now (tables .entry)) places)) (now (list .entry))) ⌝ }
+    ensures { λ r. ⌜ FindingsLeft (findingsOf (draftOf (now (document .entry)) (now (elements .entry))) (tablesAt (now (tables .entry)) places)) (now (list .entry)) r (now (list .exit)) ⌝ }
 {
     let mut notes = [0u32; 4 * Reader::ELEMENTS];
     let mut marks = [0u64; Reader::ELEMENTS];
@@ -262,9 +147,9 @@ pub fn judge(
     list: &mut [u32],
 ) -> Answer
     requires { ⌜ length (now elements) / 4 ≤ elementsLimit ⌝ }
-    ensures { λ r. ⌜ (r ≡ answerIn (findingsOf (draftOf (now (document .entry)) (now (elements .entry))) (tablesAt (now (tables .entry)) places)) (now (list .entry))) × (now (list .exit) ≡ listIn (findingsOf (draftOf (now (document .entry)) (now (elements .entry))) (tablesAt (now (tables .entry)) places)) (now (list .entry))) ⌝ }
+    ensures { λ r. ⌜ FindingsLeft (findingsOf (draftOf (now (document .entry)) (now (elements .entry))) (tablesAt (now (tables .entry)) places)) (now (list .entry)) r (now (list .exit)) ⌝ }
 {
-    if elements.len() / 4 <= 512 {
+    if elements.len() / 4 <= FEW {
         return judge_small(document, elements, tables, places, list);
     }
     judge_large(document, elements, tables, places, list)

@@ -10,6 +10,7 @@ ghost use Rattle.text_numbers.specs.Days.{isDay};
 ghost use Rattle.text_telephones.specs.Telephones.{isTelephone};
 ghost use Rattle.judge_draft.specs.Drafts.{draft, role, parent, first, after, is, isKnown, attribute, said, isEmpty};
 use judge_paths::DocumentType;
+use xml_reader::Reader;
 use xml_values::Place;
 
 // What a procedure demands of an element, from the document alone: nothing, that it is broken, a row of the code list or the register
@@ -94,7 +95,7 @@ pub fn attribute_begins(document: &[u8], notes: &[u32], n: usize, name: &[u8], s
 {
     let first = first_byte(document, notes, n);
     let Place::At(a, e) = xml_values::plain_attribute(document, first, name) else {
-        let mut room = [0u8; 4096];
+        let mut room = [0u8; Reader::VALUE];
         return text_facts::begins_with(
             xml_values::attribute(document, first, name, &mut room),
             start,
@@ -115,7 +116,7 @@ pub fn attribute_without_space(document: &[u8], notes: &[u32], n: usize, name: &
 {
     let first = first_byte(document, notes, n);
     let Place::At(a, e) = xml_values::plain_attribute(document, first, name) else {
-        let mut room = [0u8; 4096];
+        let mut room = [0u8; Reader::VALUE];
         return text_facts::without_space(xml_values::attribute(document, first, name, &mut room));
     };
     text_facts::without_space(&document[a..e])
@@ -126,7 +127,7 @@ pub fn attribute_is_guid(document: &[u8], notes: &[u32], n: usize, name: &[u8]) 
 {
     let first = first_byte(document, notes, n);
     let Place::At(a, e) = xml_values::plain_attribute(document, first, name) else {
-        let mut room = [0u8; 4096];
+        let mut room = [0u8; Reader::VALUE];
         return text_facts::is_guid(xml_values::attribute(document, first, name, &mut room));
     };
     text_facts::is_guid(&document[a..e])
@@ -137,7 +138,7 @@ pub fn attribute_is_day(document: &[u8], notes: &[u32], n: usize, name: &[u8]) -
 {
     let first = first_byte(document, notes, n);
     let Place::At(a, e) = xml_values::plain_attribute(document, first, name) else {
-        let mut room = [0u8; 4096];
+        let mut room = [0u8; Reader::VALUE];
         return text_numbers::is_day(xml_values::attribute(document, first, name, &mut room));
     };
     text_numbers::is_day(&document[a..e])
@@ -148,7 +149,7 @@ pub fn attribute_version(document: &[u8], notes: &[u32], n: usize, name: &[u8]) 
 {
     let first = first_byte(document, notes, n);
     let Place::At(a, e) = xml_values::plain_attribute(document, first, name) else {
-        let mut room = [0u8; 4096];
+        let mut room = [0u8; Reader::VALUE];
         return text_numbers::version(xml_values::attribute(document, first, name, &mut room));
     };
     text_numbers::version(&document[a..e])
@@ -159,7 +160,7 @@ pub fn attribute_is_labeler_code(document: &[u8], notes: &[u32], n: usize, name:
 {
     let first = first_byte(document, notes, n);
     let Place::At(a, e) = xml_values::plain_attribute(document, first, name) else {
-        let mut room = [0u8; 4096];
+        let mut room = [0u8; Reader::VALUE];
         return text_facts::is_labeler_code(xml_values::attribute(document, first, name, &mut room));
     };
     text_facts::is_labeler_code(&document[a..e])
@@ -170,7 +171,7 @@ pub fn attribute_is_telephone(document: &[u8], notes: &[u32], n: usize, name: &[
 {
     let first = first_byte(document, notes, n);
     let Place::At(a, e) = xml_values::plain_attribute(document, first, name) else {
-        let mut room = [0u8; 4096];
+        let mut room = [0u8; Reader::VALUE];
         return text_telephones::is_telephone(xml_values::attribute(
             document,
             first,
@@ -186,7 +187,7 @@ pub fn text_is(document: &[u8], notes: &[u32], n: usize, wanted: &[u8]) -> bool
 {
     let first = first_byte(document, notes, n);
     let Place::At(a, e) = xml_texts::plain_text(document, first) else {
-        let mut room = [0u8; 4096];
+        let mut room = [0u8; Reader::VALUE];
         return text_facts::same(xml_texts::text(document, first, &mut room), wanted);
     };
     text_facts::same(&document[a..e], wanted)
@@ -197,7 +198,7 @@ pub fn text_is_empty(document: &[u8], notes: &[u32], n: usize) -> bool
 {
     let first = first_byte(document, notes, n);
     let Place::At(a, e) = xml_texts::plain_text(document, first) else {
-        let mut room = [0u8; 4096];
+        let mut room = [0u8; Reader::VALUE];
         return xml_texts::text(document, first, &mut room).len() == 0;
     };
     text_facts::same(&document[a..e], b"")

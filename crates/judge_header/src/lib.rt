@@ -53,7 +53,7 @@ fn is_one(found: Found) -> bool
 }
 
 // The number of the one, or 0.
-fn the(found: Found) -> usize
+pub fn the(found: Found) -> usize
     ensures { λ r. ⌜ r ≡ the found ⌝ }
 {
     match found {

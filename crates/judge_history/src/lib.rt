@@ -10,13 +10,14 @@ ghost use Rattle.judge_header.specs.Header.{requestCode};
 ghost use Rattle.judge_history.specs.Told.{Told};
 use table_index::Lookup;
 use table_sets::Keys;
+use xml_reader::Reader;
 use xml_values::Place;
 
 // Whether a row has the document id of the element at `at`.
 pub fn has_document(document: &[u8], at: usize, tables: &[u8], from: usize, count: usize) -> bool
     ensures { λ r. ⌜ r ≡ someRow (isDocument (attributeOf (now (document .entry)) at (text "root"))) (rowsAt (now (tables .entry)) from count) ⌝ }
 {
-    let mut room = [0u8; 4096];
+    let mut room = [0u8; Reader::VALUE];
     let id = xml_values::attribute(document, at, b"root", &mut room);
     table_rows::has_document(tables, from, count, id)
 }
@@ -32,8 +33,8 @@ pub fn has_version(
 ) -> bool
     ensures { λ r. ⌜ r ≡ someRow (isVersion (attributeOf (now (document .entry)) set (text "root")) (attributeOf (now (document .entry)) at (text "value"))) (rowsAt (now (tables .entry)) from count) ⌝ }
 {
-    let mut room0 = [0u8; 4096];
-    let mut room1 = [0u8; 4096];
+    let mut room0 = [0u8; Reader::VALUE];
+    let mut room1 = [0u8; Reader::VALUE];
     let id = xml_values::attribute(document, set, b"root", &mut room0);
     let version = xml_values::attribute(document, at, b"value", &mut room1);
     table_rows::has_version(tables, from, count, id, version)
@@ -54,7 +55,7 @@ fn has_key_outside(
     ensures { λ r. ⌜ r ≡ someRow (isKeyElsewhere (now (code .entry)) (now (key .entry)) (attributeOf (now (document .entry)) set (text "root"))) (rowsAt (now (tables .entry)) from count) ⌝ }
 {
     let Place::At(a, e) = xml_values::plain_attribute(document, set, b"root") else {
-        let mut room = [0u8; 4096];
+        let mut room = [0u8; Reader::VALUE];
         let id = xml_values::attribute(document, set, b"root", &mut room);
         return table_search::some_row(
             Lookup::KeyElsewhere,
@@ -94,7 +95,7 @@ pub fn has_key_elsewhere(
     ensures { λ r. ⌜ r ≡ someRow (isKeyElsewhere (now (code .entry)) (attributeOf (now (document .entry)) at (text "extension")) (attributeOf (now (document .entry)) set (text "root"))) (rowsAt (now (tables .entry)) from count) ⌝ }
 {
     let Place::At(a, e) = xml_values::plain_attribute(document, at, b"extension") else {
-        let mut room = [0u8; 4096];
+        let mut room = [0u8; Reader::VALUE];
         let key = xml_values::attribute(document, at, b"extension", &mut room);
         return has_key_outside(document, set, tables, from, count, keys, code, key);
     };
@@ -144,7 +145,7 @@ fn has_key_beside(
     ensures { λ r. ⌜ r ≡ someRow (isOtherKey requestCode (attributeOf (now (document .entry)) set (text "root")) (now (key .entry))) (rowsAt (now (tables .entry)) from count) ⌝ }
 {
     let Place::At(a, e) = xml_values::plain_attribute(document, set, b"root") else {
-        let mut room = [0u8; 4096];
+        let mut room = [0u8; Reader::VALUE];
         let id = xml_values::attribute(document, set, b"root", &mut room);
         return is_other_key(tables, from, count, known, keys, id, key);
     };
@@ -166,7 +167,7 @@ pub fn has_other_key(
     ensures { λ r. ⌜ r ≡ someRow (isOtherKey requestCode (attributeOf (now (document .entry)) set (text "root")) (attributeOf (now (document .entry)) at (text "extension"))) (rowsAt (now (tables .entry)) from count) ⌝ }
 {
     let Place::At(a, e) = xml_values::plain_attribute(document, at, b"extension") else {
-        let mut room = [0u8; 4096];
+        let mut room = [0u8; Reader::VALUE];
         let key = xml_values::attribute(document, at, b"extension", &mut room);
         return has_key_beside(document, set, tables, from, count, known, keys, key);
     };

@@ -1,7 +1,7 @@
 -- What is filled serves: the values that the runs are filled for are those of the draft, and the places are the same.
 -- Assumes nothing.
-use mathlib.Core.Path.{_≡_, refl}
-use mathlib.Core.Bool.{true, false}
+use mathlib.Core.Path.{_≡_, refl, sym, _∙_}
+use mathlib.Core.Bool.{Bool, true, false}
 use mathlib.Core.List.{List}
 use Prim.Native.Nat.{ℕ, _*_, _<_, _≤_}
 use native.Mathlib.Nat.{mul-le-mul-right}
@@ -14,6 +14,7 @@ use mir.Syntax.{w64}
 use Rattle.text_scan.specs.Choice.{_and_}
 use Rattle.text_scan.specs.Bytes.{text}
 use Rattle.text_scan.proofs.Tests.{and-left, and-right}
+use Rattle.xml_reader.specs.Limits.{elementsLimit, tablesLimit, rowsLimit}
 use Rattle.table_index.specs.declared.Lookup.the-variants.{Code, Name, KeyElsewhere}
 use Rattle.table_sets.specs.declared.Keys.{Keys}
 use Rattle.table_index.specs.Indexed.{keepsRow, Serves}
@@ -26,70 +27,60 @@ use Rattle.judge_header.specs.Header.{requestCode}
 use Rattle.judge_answers.specs.declared.Places.{Places}
 use Rattle.judge_answers.specs.Answers.{typeCode, tablesAt}
 use Rattle.judge_answers.specs.Served.{partOf, CodesServed, NamesServed, KeysServed, Served}
-use Rattle.judge_lookup.specs.Serving.{isLarge, Fitting, Kept, toldAt}
+use Rattle.judge_lookup.specs.Serving.{isLarge, Sized, Kept, toldAt}
 
 -- ---- when an index is worth it, by the tests of the code
 module _ (count n : ℕ) (p : Places) where
-  pub many-elements : 16384 < count → false ≡ isLarge count n p
+  pub many-elements : elementsLimit < count → false ≡ isLarge count n p
   unfolding isLarge
-  many-elements h = rw (lt-leb count 16384 h)
+  many-elements h = rw (lt-leb count elementsLimit h)
 
-  module _ (a : count ≤ 16384) where
-    pub long-tables : 1048576 < n → false ≡ isLarge count n p
+  module _ (a : count ≤ elementsLimit) where
+    pub long-tables : tablesLimit < n → false ≡ isLarge count n p
     unfolding isLarge
-    long-tables h = rw (le-leb count 16384 a, lt-leb n 1048576 h)
+    long-tables h = rw (le-leb count elementsLimit a, lt-leb n tablesLimit h)
 
-    module _ (b : n ≤ 1048576) where
+    module _ (b : n ≤ tablesLimit) where
       pub product-fits : Fits w64 (count * n)
       product-fits = omega (arith, mul-le-mul-right n a, b)
 
-      pub many-codes : 65535 < p .ncodes → false ≡ isLarge count n p
+      pub many-codes : rowsLimit < p .ncodes → false ≡ isLarge count n p
       unfolding isLarge
-      many-codes h = rw (le-leb count 16384 a, le-leb n 1048576 b, lt-leb (p .ncodes) 65535 h)
+      many-codes h = rw (le-leb count elementsLimit a, le-leb n tablesLimit b, lt-leb (p .ncodes) rowsLimit h)
 
-      module _ (c : p .ncodes ≤ 65535) where
-        pub many-names : 65535 < p .nnames → false ≡ isLarge count n p
+      module _ (c : p .ncodes ≤ rowsLimit) where
+        pub many-names : rowsLimit < p .nnames → false ≡ isLarge count n p
         unfolding isLarge
-        many-names h = rw (le-leb count 16384 a, le-leb n 1048576 b, le-leb (p .ncodes) 65535 c, lt-leb (p .nnames) 65535 h)
+        many-names h = rw (le-leb count elementsLimit a, le-leb n tablesLimit b, le-leb (p .ncodes) rowsLimit c, lt-leb (p .nnames) rowsLimit h)
 
-        module _ (e : p .nnames ≤ 65535) where
-          pub many-rows : 65535 < p .nhistory → false ≡ isLarge count n p
+        module _ (e : p .nnames ≤ rowsLimit) where
+          pub many-rows : rowsLimit < p .nhistory → false ≡ isLarge count n p
           unfolding isLarge
-          many-rows h = rw (le-leb count 16384 a, le-leb n 1048576 b, le-leb (p .ncodes) 65535 c, le-leb (p .nnames) 65535 e, lt-leb (p .nhistory) 65535 h)
+          many-rows h = rw (le-leb count elementsLimit a, le-leb n tablesLimit b, le-leb (p .ncodes) rowsLimit c, le-leb (p .nnames) rowsLimit e, lt-leb (p .nhistory) rowsLimit h)
 
-          pub by-product : p .nhistory ≤ 65535 → ltb 8388608 (count * n) ≡ isLarge count n p
+          pub by-product : p .nhistory ≤ rowsLimit → ltb 8388608 (count * n) ≡ isLarge count n p
           unfolding isLarge
-          by-product h = rw (le-leb count 16384 a, le-leb n 1048576 b, le-leb (p .ncodes) 65535 c, le-leb (p .nnames) 65535 e, le-leb (p .nhistory) 65535 h)
+          by-product h = rw (le-leb count elementsLimit a, le-leb n tablesLimit b, le-leb (p .ncodes) rowsLimit c, le-leb (p .nnames) rowsLimit e, le-leb (p .nhistory) rowsLimit h)
 
 -- what a size that is worth it is within
-module _ (count : ℕ) (s : List ℕ) (p : Places) (x : List ℕ) (h : isLarge count (length s) p ≡ true) (l : 65536 ≤ length x) where
-  rest : leb (length s) 1048576 and leb (p .ncodes) 65535 and leb (p .nnames) 65535 and leb (p .nhistory) 65535 and ltb 8388608 (count * length s) ≡ true
-  unfolding isLarge
-  rest = and-right (leb count 16384) (leb (length s) 1048576 and leb (p .ncodes) 65535 and leb (p .nnames) 65535 and leb (p .nhistory) 65535 and ltb 8388608 (count * length s)) h
-
-  counts : leb (p .ncodes) 65535 and leb (p .nnames) 65535 and leb (p .nhistory) 65535 and ltb 8388608 (count * length s) ≡ true
-  counts = and-right (leb (length s) 1048576) (leb (p .ncodes) 65535 and leb (p .nnames) 65535 and leb (p .nhistory) 65535 and ltb 8388608 (count * length s)) rest
-
-  later : leb (p .nnames) 65535 and leb (p .nhistory) 65535 and ltb 8388608 (count * length s) ≡ true
-  later = and-right (leb (p .ncodes) 65535) (leb (p .nnames) 65535 and leb (p .nhistory) 65535 and ltb 8388608 (count * length s)) counts
-
-  last : leb (p .nhistory) 65535 and ltb 8388608 (count * length s) ≡ true
-  last = and-right (leb (p .nnames) 65535) (leb (p .nhistory) 65535 and ltb 8388608 (count * length s)) later
-
-  small : length s ≤ 1048576
-  small = leb-true (length s) 1048576 (and-left (leb (length s) 1048576) (leb (p .ncodes) 65535 and leb (p .nnames) 65535 and leb (p .nhistory) 65535 and ltb 8388608 (count * length s)) rest)
-
-  fits : (n : ℕ) → n ≤ 65535 → Fitting s n x
-  fits n g = (omega (arith, l), g, small)
-
-  pub codes-fit : Fitting s (p .ncodes) x
-  codes-fit = fits (p .ncodes) (leb-true (p .ncodes) 65535 (and-left (leb (p .ncodes) 65535) (leb (p .nnames) 65535 and leb (p .nhistory) 65535 and ltb 8388608 (count * length s)) counts))
-
-  pub names-fit : Fitting s (p .nnames) x
-  names-fit = fits (p .nnames) (leb-true (p .nnames) 65535 (and-left (leb (p .nnames) 65535) (leb (p .nhistory) 65535 and ltb 8388608 (count * length s)) later))
-
-  pub keys-fit : Fitting s (p .nhistory) x
-  keys-fit = fits (p .nhistory) (leb-true (p .nhistory) 65535 (and-left (leb (p .nhistory) 65535) (ltb 8388608 (count * length s)) last))
+pub is-sized : (n : ℕ) (s : List ℕ) (p : Places) (r : Bool) → r ≡ isLarge n (length s) p → r ≡ true → Sized s p
+unfolding isLarge
+is-sized n s p r e f =
+    let last : Bool = ltb 8388608 (n * length s) in
+    let history : Bool = leb (p .nhistory) rowsLimit in
+    let names : Bool = leb (p .nnames) rowsLimit in
+    let codes : Bool = leb (p .ncodes) rowsLimit in
+    let bytes : Bool = leb (length s) tablesLimit in
+    let a = and-right (leb n elementsLimit) (bytes and codes and names and history and last) (sym e ∙ f) in
+    let b = and-right bytes (codes and names and history and last) a in
+    let c = and-right codes (names and history and last) b in
+    let g = and-right names (history and last) c in
+    record {
+      bytes = leb-true (length s) tablesLimit (and-left bytes (codes and names and history and last) a);
+      codes = leb-true (p .ncodes) rowsLimit (and-left codes (names and history and last) b);
+      names = leb-true (p .nnames) rowsLimit (and-left names (history and last) c);
+      history = leb-true (p .nhistory) rowsLimit (and-left history last g);
+    }
 
 -- ---- the keys
 module _ (s notes : List ℕ) (n f : ℕ) (e : f ≡ first (draft s notes) n) (v : List ℕ) (g : v ≡ attributeOf s f (text "root")) (u : List ℕ) (p : Places) where

@@ -8,6 +8,7 @@ use lib.Dec.{leb, ltb}
 use lib.ListN.{length, getD}
 use Rattle.text_scan.specs.Choice.{pick, _and_}
 use Rattle.text_scan.specs.Bytes.{text}
+use Rattle.xml_reader.specs.Limits.{elementsLimit, tablesLimit, rowsLimit}
 use Rattle.table_sets.specs.SetKeys.{keysOf}
 use Rattle.judge_paths.specs.declared.DocumentType.{DocumentType}
 use Rattle.judge_paths.specs.Roles.{Code, OrganisationId, OrganisationName, OperationCode}
@@ -33,12 +34,19 @@ asking notes = askingFrom notes 0 (length notes / 4)
 -- so many walks along the rows would take longer than an index, and the tables are of a size that is accepted
 unfoldable pub isLarge : ℕ → ℕ → Places → Bool
 isLarge count n p =
-    leb count 16384 and leb n 1048576 and leb (p .ncodes) 65535 and leb (p .nnames) 65535 and leb (p .nhistory) 65535
-    and ltb 8388608 (count * n)
+    leb count elementsLimit and leb n tablesLimit and leb (p .ncodes) rowsLimit and leb (p .nnames) rowsLimit
+    and leb (p .nhistory) rowsLimit and ltb 8388608 (count * n)
+
+-- tables of a size that is accepted
+pub record Sized (s : List ℕ) (p : Places) : Type 0 where
+  pub bytes : length s ≤ tablesLimit
+  pub codes : p .ncodes ≤ rowsLimit
+  pub names : p .nnames ≤ rowsLimit
+  pub history : p .nhistory ≤ rowsLimit
 
 -- a run has room for so many rows of the tables
 abbrev pub Fitting : List ℕ → ℕ → List ℕ → Type 0
-Fitting s count x = (count < length x) × (count ≤ 65535) × (length s ≤ 1048576)
+Fitting s count x = (count < length x) × (count ≤ rowsLimit) × (length s ≤ tablesLimit)
 
 -- all parts but that of number i are left as they were
 pub record Kept (i : ℕ) (x y : List ℕ) : Type 0 where

@@ -18,9 +18,6 @@ use judge_paths::role;
 use table_index::Lookup;
 use xml_reader::Reader;
 
-// The most rows of a section.
-const ROWS: usize = 65535;
-
 // Whether the elements of a role can ask for a row.
 fn is_asking(number: u32) -> bool
     ensures { λ r. ⌜ r ≡ isRole number askingRoles ⌝ }
@@ -66,13 +63,13 @@ pub fn is_large(count: usize, length: usize, places: Places) -> bool
     if Reader::TABLES < length {
         return false;
     }
-    if ROWS < places.ncodes {
+    if Reader::ROWS < places.ncodes {
         return false;
     }
-    if ROWS < places.nnames {
+    if Reader::ROWS < places.nnames {
         return false;
     }
-    if ROWS < places.nhistory {
+    if Reader::ROWS < places.nhistory {
         return false;
     }
     8388608 < count * length
@@ -137,7 +134,7 @@ fn fill_keys_of(
     requires { ⌜ (3 * room ≤ length (now index)) × Fitting (now tables) (places .nhistory) (now index) ⌝ }
     ensures { λ _. ⌜ KeysServed (now (code .entry)) (attribute (draft (now (document .entry)) (now (notes .entry))) set (text "root")) (now (tables .entry)) places (partOf (now (index .exit)) 2) × Kept 2 (now (index .entry)) (now (index .exit)) ⌝ }
 {
-    let mut room = [0u8; 4096];
+    let mut room = [0u8; Reader::VALUE];
     let at = first_byte(document, notes, set);
     let id = xml_values::attribute(document, at, b"root", &mut room);
     fill_part(
@@ -199,7 +196,7 @@ fn told(
 ) -> Places
     ensures { λ r. ⌜ r ≡ toldAt (draft (now (document .entry)) (now (notes .entry))) (now (tables .entry)) places kind set ⌝ }
 {
-    let mut room = [0u8; 4096];
+    let mut room = [0u8; Reader::VALUE];
     let at = first_byte(document, notes, set);
     let id = xml_values::attribute(document, at, b"root", &mut room);
     let keys = table_sets::keys_of(tables, places.history, places.nhistory, b"51726-8", id);

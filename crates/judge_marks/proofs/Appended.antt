@@ -21,7 +21,7 @@ use Rattle.list_writer.specs.Listed.{listAfter, countAfter}
 use Rattle.judge_draft.specs.Drafts.{Draft, draft, role}
 use Rattle.judge_procedures.specs.Procedures.{askedAt}
 use Rattle.judge_findings.specs.Listed.{finding}
-use Rattle.judge_marks.specs.Marks.{pushed, digitsOf, ones, most, marked, askedRow, markedAt, markedFrom}
+use Rattle.judge_marks.specs.Marks.{pushed, ones, most, marked, askedRow, markedAt, markedFrom}
 use Rattle.judge_marks.proofs.Told.{no-ones, nothing-marked}
 use Rattle.judge_marks.proofs.Table.{padded-length}
 
@@ -37,10 +37,6 @@ push-zero m b h e = rw (lt-ltb m 4611686018427387904 h, e) (omega arith)
 pub push-none : (m : ℕ) (b : Bool) → 4611686018427387904 ≤ m → 0 ≡ pushed m b
 unfolding pushed
 push-none m b h = rw (le-ltb m 4611686018427387904 h)
-
-pub seven : (a b c d e f g : Bool) (r x1 x2 x3 x4 x5 x6 : ℕ) → r ≡ pushed x1 a → x1 ≡ pushed x2 b → x2 ≡ pushed x3 c → x3 ≡ pushed x4 d → x4 ≡ pushed x5 e → x5 ≡ pushed x6 f → x6 ≡ pushed 0 g → r ≡ digitsOf (a ∷ b ∷ c ∷ d ∷ e ∷ f ∷ g ∷ [])
-unfolding digitsOf
-seven a b c d e f g r x1 x2 x3 x4 x5 x6 p1 p2 p3 p4 p5 p6 p7 = rw (p1, p2, p3, p4, p5, p6, p7)
 
 -- ---- counting
 ones-here : (k m : ℕ) → 0 < k → ones k m ≡ m % 2 + ones (k - 1) (m / 2)

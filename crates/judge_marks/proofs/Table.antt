@@ -11,7 +11,7 @@ use lib.Dec.{leb}
 use lib.ListN.{length, getD, List·getD-eq-default}
 use Rattle.text_scan.proofs.Within.{inside}
 use Rattle.judge_paths.specs.Roles.{Unlisted, Root, Id, Code, EffectiveTime, SetId, VersionNumber, Entity1, Labeler, Entity2, Registrant, Entity3, Establishment, Entity4, Agent, OrganisationId, OrganisationName, ContactParty, Addr, Telecom, OperationCode, RequestEntity, RequestLabeler}
-use Rattle.judge_procedures.specs.Procedures.{foundAt, askedFrom, askedAt}
+use Rattle.judge_procedures.specs.Procedures.{numbered, foundAt, askedFrom, askedAt}
 use Rattle.judge_marks.specs.Marks.{most, padded, askedRow}
 
 -- how many roles there are
@@ -19,7 +19,7 @@ abbrev pub roles : ℕ
 roles = 39
 
 -- ---- what a function gives for k, k + 1, .., m of them
-mapped : {A : Type 0} → (ℕ → A) → ℕ → ℕ → List A
+unfoldable pub mapped : {A : Type 0} → (ℕ → A) → ℕ → ℕ → List A
 mapped f k zero = []
 mapped f k (suc m) = f k ∷ mapped f (k + 1) m
 
@@ -33,20 +33,6 @@ mapped-at f z (suc m) k (suc i) h =
     let e : k + suc i ≡ k + 1 + i = omega arith in
     rw e (mapped-at f z m (k + 1) i (omega arith))
 
--- ---- two lists, one behind the other
-getD-front : (xs ys : List ℕ) (i : ℕ) → i < length xs → getD (xs ++ ys) i 0 ≡ getD xs i 0
-getD-front [] ys i h = absurd (omega arith)
-getD-front (x ∷ xs) ys zero h = refl
-getD-front (x ∷ xs) ys (suc i) h = getD-front xs ys i (omega arith)
-
-getD-behind : (xs ys : List ℕ) (i : ℕ) → getD (xs ++ ys) (length xs + i) 0 ≡ getD ys i 0
-getD-behind [] ys i =
-    let e : 0 + i ≡ i = zero-add i in
-    rw e
-getD-behind (x ∷ xs) ys i =
-    let e : suc (length xs) + i ≡ suc (length xs + i) = omega arith in
-    rw e (getD-behind xs ys i)
-
 pub padded-length : (k : ℕ) (ps : List ℕ) → length (padded k ps) ≡ k
 unfolding padded
 padded-length zero ps = refl
@@ -55,13 +41,13 @@ padded-length (suc k) (p ∷ ps) = ap suc (padded-length k ps)
 
 -- an element without procedures of its own
 title : askedAt 5 ≡ 3 ∷ 4 ∷ []
-unfolding askedAt askedFrom foundAt
+unfolding askedAt askedFrom foundAt numbered
 title = refl
 
 -- ---- a number that no role has
 module _ (r : ℕ) (h : roles ≤ r) where
   pub asked-other : askedAt r ≡ 3 ∷ 4 ∷ []
-  unfolding askedAt askedFrom foundAt
+  unfolding askedAt askedFrom foundAt numbered
   asked-other = rw (ne-eqb r Unlisted (λ e. absurd (omega arith)), ne-eqb r Root (λ e. absurd (omega arith)), ne-eqb r Id (λ e. absurd (omega arith)), ne-eqb r Code (λ e. absurd (omega arith)), ne-eqb r EffectiveTime (λ e. absurd (omega arith)), ne-eqb r SetId (λ e. absurd (omega arith)), ne-eqb r VersionNumber (λ e. absurd (omega arith)), ne-eqb r Entity1 (λ e. absurd (omega arith)), ne-eqb r Labeler (λ e. absurd (omega arith)), ne-eqb r Entity2 (λ e. absurd (omega arith)), ne-eqb r Registrant (λ e. absurd (omega arith)), ne-eqb r Entity3 (λ e. absurd (omega arith)), ne-eqb r Establishment (λ e. absurd (omega arith)), ne-eqb r Entity4 (λ e. absurd (omega arith)), ne-eqb r Agent (λ e. absurd (omega arith)), ne-eqb r OrganisationId (λ e. absurd (omega arith)), ne-eqb r OrganisationName (λ e. absurd (omega arith)), ne-eqb r ContactParty (λ e. absurd (omega arith)), ne-eqb r Addr (λ e. absurd (omega arith)), ne-eqb r Telecom (λ e. absurd (omega arith)), ne-eqb r OperationCode (λ e. absurd (omega arith)), ne-eqb r RequestEntity (λ e. absurd (omega arith)), ne-eqb r RequestLabeler (λ e. absurd (omega arith)), lt-ltb 1 r (omega arith))
 
 -- ---- no role has more than there is room for
@@ -81,7 +67,7 @@ low-at k (x ∷ xs) l zero h = leb-true x k (l .0)
 low-at k (x ∷ xs) l (suc i) h = low-at k xs (l .1) i (omega arith)
 
 few-lengths : low most (mapped (λ r. length (askedAt r)) 0 roles)
-unfolding mapped askedAt askedFrom foundAt
+unfolding mapped askedAt askedFrom foundAt numbered
 few-lengths = (refl, (refl, (refl, (refl, (refl, (refl, (refl, (refl, (refl, (refl, (refl, (refl, (refl, (refl, (refl, (refl, (refl, (refl, (refl, (refl, (refl, (refl, (refl, (refl, (refl, (refl, (refl, (refl, (refl, (refl, (refl, (refl, (refl, (refl, (refl, (refl, (refl, (refl, (refl, tt)))))))))))))))))))))))))))))))))))))))
 
 pub asked-few : (r : ℕ) → length (askedAt r) ≤ most
@@ -95,33 +81,16 @@ asked-few r = inside roles r there past
     past : roles ≤ r → length (askedAt r) ≤ most
     past h = rw (asked-other r h) (omega arith)
 
--- ---- the rows of all roles, one after another
-unfoldable pub rowsOf : ℕ → ℕ → List ℕ
-rowsOf k zero = []
-rowsOf k (suc m) = askedRow k ++ rowsOf (k + 1) m
-
-rows-at : (m k r i : ℕ) → r < m → i < most → getD (rowsOf k m) (most * r + i) 0 ≡ getD (askedRow (k + r)) i 0
-unfolding rowsOf
-rows-at zero k r i h g = absurd (omega arith)
-rows-at (suc m) k zero i h g =
-    let e : k + 0 ≡ k = omega arith in
-    let f : most * 0 + i ≡ i = omega arith in
-    rw (e, f) (getD-front (askedRow k) (rowsOf (k + 1) m) i (omega (arith, padded-length most (askedAt k))))
-rows-at (suc m) k (suc r) i h g =
-    let e : k + suc r ≡ k + 1 + r = omega arith in
-    let f : most * suc r + i ≡ most + (most * r + i) = omega arith in
-    rw (e, f) (ap (λ j. getD (askedRow k ++ rowsOf (k + 1) m) (j + (most * r + i)) 0) (sym (padded-length most (askedAt k))) ∙ (getD-behind (askedRow k) (rowsOf (k + 1) m) (most * r + i) ∙ rows-at m (k + 1) r i (omega arith) g))
-
--- the code's table is those
-module _ (table : List ℕ) (e : table ≡ rowsOf 0 roles) (r i : ℕ) (g : i < most) where
-  pub asked-there : r < roles → getD table (most * r + i) 0 ≡ getD (askedRow r) i 0
+-- ---- the code's table has the rows of all roles
+module _ (table : List (List ℕ)) (e : table ≡ mapped askedRow 0 roles) (z : List ℕ) (r i : ℕ) where
+  pub asked-there : r < roles → getD (getD table r z) i 0 ≡ getD (askedRow r) i 0
   asked-there h =
-      let z : 0 + r ≡ r = zero-add r in
-      ap (λ l. getD l (most * r + i) 0) e ∙ (rows-at roles 0 r i h g ∙ rw z)
+      let k : 0 + r ≡ r = zero-add r in
+      ap (λ t. getD (getD t r z) i 0) e ∙ (ap (λ x. getD x i 0) (mapped-at askedRow z roles 0 r h) ∙ rw k)
 
-  pub asked-past : roles ≤ r → getD table (most * 5 + i) 0 ≡ getD (askedRow r) i 0
-  unfolding padded
-  asked-past h = ap (λ l. getD l (most * 5 + i) 0) e ∙ (rows-at roles 0 5 i (omega arith) g ∙ rw (asked-other r h, title))
+  pub asked-past : roles ≤ r → getD (getD table 5 z) i 0 ≡ getD (askedRow r) i 0
+  asked-past h =
+      ap (λ t. getD (getD t 5 z) i 0) e ∙ (ap (λ x. getD x i 0) (mapped-at askedRow z roles 0 5 (omega arith)) ∙ rw (asked-other r h, title))
 
 pub asked-none : (r i : ℕ) → most ≤ i → 0 ≡ getD (askedRow r) i 0
 asked-none r i h = sym (List·getD-eq-default (askedRow r) 0 (omega (arith, padded-length most (askedAt r))))

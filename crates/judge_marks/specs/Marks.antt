@@ -19,11 +19,6 @@ digit false = 0
 unfoldable pub pushed : ℕ → Bool → ℕ
 pushed m b = pick (ltb m 4611686018427387904) (2 * m + digit b) 0
 
--- the digits of these answers, the first one's lowest
-unfoldable pub digitsOf : List Bool → ℕ
-digitsOf [] = 0
-digitsOf (b ∷ bs) = pushed (digitsOf bs) b
-
 -- the digits of these procedures
 unfoldable pub markBy : (ℕ → ℕ → Bool) → ℕ → List ℕ → ℕ
 markBy b n [] = 0

@@ -32,21 +32,25 @@ use Rattle.judge_registrations.specs.Registrations.{ofNci, isAgency, inUsa, has
 use Rattle.judge_draft.specs.Demands.{brokenIf}
 use Rattle.judge_header.specs.declared.Header.{Header}
 use Rattle.list_findings.specs.Findings.{lastProcedure}
-use Rattle.judge_procedures.specs.Procedures.{demands, demandOf}
+use Rattle.judge_procedures.specs.Procedures.{Procedure, procedures, numbered, demandIn, demandOf}
 
 abbrev smallest : Draft
 smallest = draft (text "<a/>") (Root ∷ 0 ∷ 0 ∷ 4 ∷ [])
 
+demands : List Procedure → List Demand
+demands [] = []
+demands (x ∷ xs) = x .asks smallest (headerOf smallest) 0 ∷ demands xs
+
 -- 1, 5, 7, 9, 10 and 11 are broken, and no table is asked
-whole : demands smallest (headerOf smallest) 0 ≡ Broken ∷ Nothing ∷ Nothing ∷ Nothing ∷ Broken ∷ Nothing ∷ Broken ∷ Nothing ∷ Broken ∷ Broken ∷ Broken ∷ Nothing ∷ Nothing ∷ Nothing ∷ Nothing ∷ Nothing ∷ Nothing ∷ Nothing ∷ Nothing ∷ Nothing ∷ Nothing ∷ Nothing ∷ Nothing ∷ Nothing ∷ Nothing ∷ Nothing ∷ Nothing ∷ Nothing ∷ Nothing ∷ Nothing ∷ Nothing ∷ Nothing ∷ Nothing ∷ Nothing ∷ Nothing ∷ Nothing ∷ Nothing ∷ Nothing ∷ []
-unfolding every pairs begins runEnd walk from equal withoutSpace isGuid versionOf isDay nameEnd opened equalsAt elementEnd nameIs items ending row rowFrom attributeTo partTo pieceAt attributes someAttribute nameAfter firstNamed attributePlace hasOther isListed isOther draft is isKnown attribute said passes ancestor placed wants within chosenFrom chosen listedNames otherThan isDocument isDeclared hasSchema rootIsRight guidRoot idHolds setHolds codeIs typedCode hasType dayValue versionValue versionHolds oneAt oneOfRoot headerOf breaks1 breaks2 breaks3 breaks4 breaks5 demand6 breaks7 demand8 breaks9 breaks10 breaks11 demand12 breaks13 organisationIn isOrganisation rightIds dunsId labelerId hasExtension dunsHolds isSaid nameHolds isOneName labelerHolds isLabelerId isRegistrantId breaks14 breaks15 breaks16 breaks17 demand18 breaks19 breaks20 demand21 demand22 hasContact contactHolds oneSaid linesSaid isAddress addressHolds isUsa hasTelecoms personHolds breaks23 breaks24 breaks25 breaks26 breaks27 breaks28 breaks29 breaks30 ofNci isAgency inUsa hasEstablishment breaks31 breaks32 breaks33 demand34 breaks35 breaks36 breaks37 breaks38
+whole : demands procedures ≡ Broken ∷ Nothing ∷ Nothing ∷ Nothing ∷ Broken ∷ Nothing ∷ Broken ∷ Nothing ∷ Broken ∷ Broken ∷ Broken ∷ Nothing ∷ Nothing ∷ Nothing ∷ Nothing ∷ Nothing ∷ Nothing ∷ Nothing ∷ Nothing ∷ Nothing ∷ Nothing ∷ Nothing ∷ Nothing ∷ Nothing ∷ Nothing ∷ Nothing ∷ Nothing ∷ Nothing ∷ Nothing ∷ Nothing ∷ Nothing ∷ Nothing ∷ Nothing ∷ Nothing ∷ Nothing ∷ Nothing ∷ Nothing ∷ Nothing ∷ []
+unfolding demands every pairs begins runEnd walk from equal withoutSpace isGuid versionOf isDay nameEnd opened equalsAt elementEnd nameIs items ending row rowFrom attributeTo partTo pieceAt attributes someAttribute nameAfter firstNamed attributePlace hasOther isListed isOther draft is isKnown attribute said passes ancestor placed wants within chosenFrom chosen listedNames otherThan isDocument isDeclared hasSchema rootIsRight guidRoot idHolds setHolds codeIs typedCode hasType dayValue versionValue versionHolds oneAt oneOfRoot headerOf breaks1 breaks2 breaks3 breaks4 breaks5 demand6 breaks7 demand8 breaks9 breaks10 breaks11 demand12 breaks13 organisationIn isOrganisation rightIds dunsId labelerId hasExtension dunsHolds isSaid nameHolds isOneName labelerHolds isLabelerId isRegistrantId breaks14 breaks15 breaks16 breaks17 demand18 breaks19 breaks20 demand21 demand22 hasContact contactHolds oneSaid linesSaid isAddress addressHolds isUsa hasTelecoms personHolds breaks23 breaks24 breaks25 breaks26 breaks27 breaks28 breaks29 breaks30 ofNci isAgency inUsa hasEstablishment breaks31 breaks32 breaks33 demand34 breaks35 breaks36 breaks37 breaks38
 whole = refl
 
 -- each stands under its number
 fifth : (d : Draft) (h : Header) (n : ℕ) → demandOf d h 5 n ≡ brokenIf (breaks5 d h n)
-unfolding demandOf
+unfolding demandOf demandIn numbered
 fifth d h n = refl
 
 last : (d : Draft) (h : Header) (n : ℕ) → demandOf d h lastProcedure n ≡ brokenIf (breaks38 d n)
-unfolding demandOf
+unfolding demandOf demandIn numbered
 last d h n = refl

@@ -1,9 +1,11 @@
--- The procedures by their numbers: what each demands of an element, from the document alone, and the roles of the elements at which it can be found.
+-- The procedures, one row for each: its number, the roles of the elements at which it can be found, and what it demands of an element, from the
+-- document alone.
 -- Assumes nothing.
 use Prim.Native.Nat.{ℕ, zero, suc, _+_}
 use mathlib.Core.Bool.{Bool, true, false}
-use mathlib.Core.List.{List, [], _∷_}
-use lib.ListN.{getD}
+use mathlib.Core.List.{List, [], _∷_, _++_}
+use lib.Dec.{eqb}
+use Rattle.text_scan.specs.Choice.{pick}
 use Rattle.list_findings.specs.Findings.{lastProcedure}
 use Rattle.judge_paths.specs.Roles.{Unlisted, Root, Id, Code, EffectiveTime, SetId, VersionNumber, Entity1, Labeler, Entity2, Registrant, Entity3, Establishment, Entity4, Agent, OrganisationId, OrganisationName, ContactParty, Addr, Telecom, OperationCode, RequestEntity, RequestLabeler, isKnown}
 use Rattle.judge_paths.specs.Attributes.{isRole}
@@ -20,137 +22,137 @@ use Rattle.judge_addresses.specs.Addresses.{breaks24, breaks25}
 use Rattle.judge_contacts.specs.Contacts.{breaks23, breaks26, breaks27, breaks28, breaks29, breaks30}
 use Rattle.judge_registrations.specs.Registrations.{breaks31, breaks32, breaks33, demand34, breaks35, breaks36, breaks37, breaks38}
 
--- what the procedures 1 to 38 demand of element n
-abbrev pub demands : Draft → Header → ℕ → List Demand
-demands d h n =
-    -- 1: the root is named document and declares the three names of the schema
-    brokenIf (breaks1 d n)
-    -- 2: every element in a known one is listed there
-    ∷ brokenIf (breaks2 d n)
-    -- 3: a known element has listed attributes only
-    ∷ brokenIf (breaks3 d n)
-    -- 4: a code and an extension have no space
-    ∷ brokenIf (breaks4 d n)
-    -- 5: one id, its root a GUID; 6: which no row of the history has as document id
-    ∷ brokenIf (breaks5 d h n)
-    ∷ demand6 d h n
-    -- 7: one code, of one of the two types; 8: which the code list has with its display name
-    ∷ brokenIf (breaks7 d h n)
-    ∷ demand8 d h n
-    -- 9: one effectiveTime, a day
-    ∷ brokenIf (breaks9 d h n)
-    -- 10: one setId, its root a GUID; 11: one versionNumber; 12: above all versions of the set id in the history
-    ∷ brokenIf (breaks10 d h n)
-    ∷ brokenIf (breaks11 d h n)
-    ∷ demand12 d h n
-    -- 13: a document of a type has one labeler
-    ∷ brokenIf (breaks13 d h n)
-    -- 14: each assignedEntity has one organisation
-    ∷ brokenIf (breaks14 d n)
-    -- 15: as many ids as the organisation has; 16: one of them its DUNS number
-    ∷ brokenIf (breaks15 d n)
-    ∷ brokenIf (breaks16 d n)
-    -- 17: one name; 18: the register has the two
-    ∷ brokenIf (breaks17 d n)
-    ∷ demand18 d n
-    -- 19: one labeler code in a request; 20: in its form
-    ∷ brokenIf (breaks19 d n)
-    ∷ brokenIf (breaks20 d n)
-    -- 21: no row of this type has the key under another set id; 22: none of this set id has another labeler code
-    ∷ demand21 d h n
-    ∷ demand22 d h n
-    -- 23: one contactParty
-    ∷ brokenIf (breaks23 d n)
-    -- 24: one whole address; 25: with state and postal code in the USA
-    ∷ brokenIf (breaks24 d n)
-    ∷ brokenIf (breaks25 d n)
-    -- 26: two telecoms; 27: a telephone; 28: a mail address; 29: a telephone in its form
-    ∷ brokenIf (breaks26 d n)
-    ∷ brokenIf (breaks27 d n)
-    ∷ brokenIf (breaks28 d n)
-    ∷ brokenIf (breaks29 d n)
-    -- 30: one contactPerson with one name
-    ∷ brokenIf (breaks30 d n)
-    -- 31: one registrant; 32: an establishment
-    ∷ brokenIf (breaks31 d n)
-    ∷ brokenIf (breaks32 d n)
-    -- 33: an agent's or importer's entity has the one operation code of the two
-    ∷ brokenIf (breaks33 d n)
-    -- 34: the code list has each operation code
-    ∷ demand34 d n
-    -- 35: an establishment abroad has an agent; 36: one in the USA neither agent nor importer
-    ∷ brokenIf (breaks35 d n)
-    ∷ brokenIf (breaks36 d n)
-    -- 37: an establishment's entity has an operation code; 38: of the NCI system
-    ∷ brokenIf (breaks37 d n)
-    ∷ brokenIf (breaks38 d n)
-    ∷ []
+pub record Procedure : Type 0 where
+  pub number : ℕ
+  pub place : ℕ → Bool
+  pub asks : Draft → Header → ℕ → Demand
 
--- what procedure p demands of element n; there is no procedure 0, and none past the last
-unfoldable pub demandOf : Draft → Header → ℕ → ℕ → Demand
-demandOf d h p n = getD (Nothing ∷ demands d h n) p Nothing
+abbrev pub row : ℕ → (ℕ → Bool) → (Draft → Header → ℕ → Demand) → Procedure
+row number place asks = record { number = number; place = place; asks = asks }
 
--- ---- where each can be found
 -- at elements of these roles
 abbrev pub at : List ℕ → ℕ → Bool
 at roles r = isRole r roles
 
-abbrev pub nowhere : ℕ → Bool
-nowhere r = false
+-- broken where a test says so: of the header and an element, or of an element alone
+abbrev pub ofHeader : (Draft → Header → ℕ → Bool) → Draft → Header → ℕ → Demand
+ofHeader b d h n = brokenIf (b d h n)
 
--- the procedures 1 to 38
-abbrev pub places : List (ℕ → Bool)
-places =
-    at (Root ∷ [])
-    ∷ at (Unlisted ∷ [])
-    ∷ isKnown
-    ∷ isKnown
-    -- 5
-    ∷ at (Root ∷ Id ∷ [])
-    ∷ at (Id ∷ [])
-    ∷ at (Root ∷ Code ∷ [])
-    ∷ at (Code ∷ [])
-    ∷ at (Root ∷ EffectiveTime ∷ [])
-    -- 10
-    ∷ at (Root ∷ SetId ∷ [])
-    ∷ at (Root ∷ VersionNumber ∷ [])
-    ∷ at (VersionNumber ∷ [])
-    ∷ at (Root ∷ [])
-    ∷ at (RequestEntity ∷ Entity1 ∷ Entity2 ∷ Entity3 ∷ Entity4 ∷ [])
-    -- 15
-    ∷ at (RequestLabeler ∷ Registrant ∷ Establishment ∷ Agent ∷ [])
-    ∷ at (RequestLabeler ∷ Registrant ∷ Establishment ∷ Agent ∷ [])
-    ∷ at (RequestLabeler ∷ Registrant ∷ Establishment ∷ Agent ∷ OrganisationName ∷ [])
-    ∷ at (OrganisationName ∷ [])
-    ∷ at (RequestLabeler ∷ [])
-    -- 20
-    ∷ at (OrganisationId ∷ [])
-    ∷ at (OrganisationId ∷ [])
-    ∷ at (OrganisationId ∷ [])
-    ∷ at (RequestLabeler ∷ Registrant ∷ Establishment ∷ [])
-    ∷ at (ContactParty ∷ Establishment ∷ [])
-    -- 25
-    ∷ at (Addr ∷ [])
-    ∷ at (ContactParty ∷ Agent ∷ [])
-    ∷ at (ContactParty ∷ Agent ∷ [])
-    ∷ at (ContactParty ∷ Agent ∷ [])
-    ∷ at (Telecom ∷ [])
-    -- 30
-    ∷ at (ContactParty ∷ [])
-    ∷ at (Labeler ∷ [])
-    ∷ at (Registrant ∷ [])
-    ∷ at (Entity4 ∷ [])
-    ∷ at (OperationCode ∷ [])
-    -- 35
-    ∷ at (Establishment ∷ [])
-    ∷ at (Establishment ∷ [])
-    ∷ at (Entity3 ∷ [])
-    ∷ at (OperationCode ∷ [])
+abbrev pub ofElement : (Draft → ℕ → Bool) → Draft → Header → ℕ → Demand
+ofElement b d h n = brokenIf (b d n)
+
+-- a row of a table that is asked for by an element alone
+abbrev pub rowOf : (Draft → ℕ → Demand) → Draft → Header → ℕ → Demand
+rowOf f d h n = f d n
+
+-- ---- what is known
+abbrev pub listedProcedures : List Procedure
+listedProcedures =
+    -- the root is named document and declares the three names of the schema
+    row 1 (at (Root ∷ [])) (ofElement breaks1)
+    -- every element in a known one is listed there
+    ∷ row 2 (at (Unlisted ∷ [])) (ofElement breaks2)
+    -- a known element has listed attributes only
+    ∷ row 3 isKnown (ofElement breaks3)
+    -- a code and an extension have no space
+    ∷ row 4 isKnown (ofElement breaks4)
     ∷ []
+
+-- ---- the header
+abbrev pub headerProcedures : List Procedure
+headerProcedures =
+    -- one id, its root a GUID; which no row of the history has as document id
+    row 5 (at (Root ∷ Id ∷ [])) (ofHeader breaks5)
+    ∷ row 6 (at (Id ∷ [])) demand6
+    -- one code, of one of the two types; which the code list has with its display name
+    ∷ row 7 (at (Root ∷ Code ∷ [])) (ofHeader breaks7)
+    ∷ row 8 (at (Code ∷ [])) demand8
+    -- one effectiveTime, a day
+    ∷ row 9 (at (Root ∷ EffectiveTime ∷ [])) (ofHeader breaks9)
+    -- one setId, its root a GUID; one versionNumber; above all versions of the set id in the history
+    ∷ row 10 (at (Root ∷ SetId ∷ [])) (ofHeader breaks10)
+    ∷ row 11 (at (Root ∷ VersionNumber ∷ [])) (ofHeader breaks11)
+    ∷ row 12 (at (VersionNumber ∷ [])) demand12
+    -- a document of a type has one labeler
+    ∷ row 13 (at (Root ∷ [])) (ofHeader breaks13)
+    ∷ []
+
+-- ---- organisations
+abbrev pub organisationProcedures : List Procedure
+organisationProcedures =
+    -- each assignedEntity has one organisation
+    row 14 (at (RequestEntity ∷ Entity1 ∷ Entity2 ∷ Entity3 ∷ Entity4 ∷ [])) (ofElement breaks14)
+    -- as many ids as the organisation has; one of them its DUNS number
+    ∷ row 15 (at (RequestLabeler ∷ Registrant ∷ Establishment ∷ Agent ∷ [])) (ofElement breaks15)
+    ∷ row 16 (at (RequestLabeler ∷ Registrant ∷ Establishment ∷ Agent ∷ [])) (ofElement breaks16)
+    -- one name; the register has the two
+    ∷ row 17 (at (RequestLabeler ∷ Registrant ∷ Establishment ∷ Agent ∷ OrganisationName ∷ [])) (ofElement breaks17)
+    ∷ row 18 (at (OrganisationName ∷ [])) (rowOf demand18)
+    -- one labeler code in a request; in its form
+    ∷ row 19 (at (RequestLabeler ∷ [])) (ofElement breaks19)
+    ∷ row 20 (at (OrganisationId ∷ [])) (ofElement breaks20)
+    -- no row of this type has the key under another set id; none of this set id has another labeler code
+    ∷ row 21 (at (OrganisationId ∷ [])) demand21
+    ∷ row 22 (at (OrganisationId ∷ [])) demand22
+    ∷ []
+
+-- ---- contacts
+abbrev pub contactProcedures : List Procedure
+contactProcedures =
+    -- one contactParty
+    row 23 (at (RequestLabeler ∷ Registrant ∷ Establishment ∷ [])) (ofElement breaks23)
+    -- one whole address; with state and postal code in the USA
+    ∷ row 24 (at (ContactParty ∷ Establishment ∷ [])) (ofElement breaks24)
+    ∷ row 25 (at (Addr ∷ [])) (ofElement breaks25)
+    -- two telecoms; a telephone; a mail address; a telephone in its form
+    ∷ row 26 (at (ContactParty ∷ Agent ∷ [])) (ofElement breaks26)
+    ∷ row 27 (at (ContactParty ∷ Agent ∷ [])) (ofElement breaks27)
+    ∷ row 28 (at (ContactParty ∷ Agent ∷ [])) (ofElement breaks28)
+    ∷ row 29 (at (Telecom ∷ [])) (ofElement breaks29)
+    -- one contactPerson with one name
+    ∷ row 30 (at (ContactParty ∷ [])) (ofElement breaks30)
+    ∷ []
+
+-- ---- registrations
+abbrev pub registrationProcedures : List Procedure
+registrationProcedures =
+    -- one registrant; an establishment
+    row 31 (at (Labeler ∷ [])) (ofElement breaks31)
+    ∷ row 32 (at (Registrant ∷ [])) (ofElement breaks32)
+    -- an agent's or importer's entity has the one operation code of the two
+    ∷ row 33 (at (Entity4 ∷ [])) (ofElement breaks33)
+    -- the code list has each operation code
+    ∷ row 34 (at (OperationCode ∷ [])) (rowOf demand34)
+    -- an establishment abroad has an agent; one in the USA neither agent nor importer
+    ∷ row 35 (at (Establishment ∷ [])) (ofElement breaks35)
+    ∷ row 36 (at (Establishment ∷ [])) (ofElement breaks36)
+    -- an establishment's entity has an operation code; of the NCI system
+    ∷ row 37 (at (Entity3 ∷ [])) (ofElement breaks37)
+    ∷ row 38 (at (OperationCode ∷ [])) (ofElement breaks38)
+    ∷ []
+
+abbrev pub procedures : List Procedure
+procedures =
+    listedProcedures ++ headerProcedures ++ organisationProcedures ++ contactProcedures ++ registrationProcedures
+
+-- ---- by their numbers
+abbrev pub noProcedure : Procedure
+noProcedure = row 0 (λ r. false) (λ d h n. Nothing)
+
+unfoldable pub numbered : ℕ → List Procedure → Procedure
+numbered p [] = noProcedure
+numbered p (x ∷ xs) = pick (eqb p (x .number)) x (numbered p xs)
+
+-- what procedure p, one of these, demands of element n
+unfoldable pub demandIn : List Procedure → Draft → Header → ℕ → ℕ → Demand
+demandIn rows d h p n = numbered p rows .asks d h n
+
+unfoldable pub demandOf : Draft → Header → ℕ → ℕ → Demand
+demandOf d h p n = demandIn procedures d h p n
 
 -- procedure p can be found at an element of role r
 unfoldable pub foundAt : ℕ → ℕ → Bool
-foundAt p r = getD (nowhere ∷ places) p nowhere r
+foundAt p r = numbered p procedures .place r
 
 abbrev pub keep : Bool → ℕ → List ℕ → List ℕ
 keep true p ps = p ∷ ps

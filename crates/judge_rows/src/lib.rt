@@ -9,6 +9,7 @@ ghost use Rattle.table_index.specs.Indexed.{keepsRow, Serves};
 ghost use Rattle.xml_values.specs.Attributes.{attributeOf};
 ghost use Rattle.xml_texts.specs.Texts.{textOf};
 use table_index::Lookup;
+use xml_reader::Reader;
 use xml_values::Place;
 
 // Whether a row of the code list has this code and system, and the display name of the element at `at`.
@@ -26,7 +27,7 @@ fn has_display(
     ensures { λ r. ⌜ r ≡ someRow (isCode (now (code .entry)) (now (system .entry)) (attributeOf (now (document .entry)) at (text "displayName"))) (rowsAt (now (tables .entry)) from count) ⌝ }
 {
     let Place::At(a, e) = xml_values::plain_attribute(document, at, b"displayName") else {
-        let mut room = [0u8; 4096];
+        let mut room = [0u8; Reader::VALUE];
         let display = xml_values::attribute(document, at, b"displayName", &mut room);
         return table_search::some_row(
             Lookup::Code,
@@ -65,7 +66,7 @@ fn has_system(
     ensures { λ r. ⌜ r ≡ someRow (isCode (now (code .entry)) (attributeOf (now (document .entry)) at (text "codeSystem")) (attributeOf (now (document .entry)) at (text "displayName"))) (rowsAt (now (tables .entry)) from count) ⌝ }
 {
     let Place::At(a, e) = xml_values::plain_attribute(document, at, b"codeSystem") else {
-        let mut room = [0u8; 4096];
+        let mut room = [0u8; Reader::VALUE];
         let system = xml_values::attribute(document, at, b"codeSystem", &mut room);
         return has_display(document, at, tables, from, count, codes, code, system);
     };
@@ -94,7 +95,7 @@ pub fn has_code(
     ensures { λ r. ⌜ r ≡ someRow (isCode (attributeOf (now (document .entry)) at (text "code")) (attributeOf (now (document .entry)) at (text "codeSystem")) (attributeOf (now (document .entry)) at (text "displayName"))) (rowsAt (now (tables .entry)) from count) ⌝ }
 {
     let Place::At(a, e) = xml_values::plain_attribute(document, at, b"code") else {
-        let mut room = [0u8; 4096];
+        let mut room = [0u8; Reader::VALUE];
         let code = xml_values::attribute(document, at, b"code", &mut room);
         return has_system(document, at, tables, from, count, codes, code);
     };
@@ -115,7 +116,7 @@ fn has_name_of(
     ensures { λ r. ⌜ r ≡ someRow (isRegistered (now (number .entry)) (textOf (now (document .entry)) at)) (rowsAt (now (tables .entry)) from count) ⌝ }
 {
     let Place::At(a, e) = xml_texts::plain_text(document, at) else {
-        let mut room = [0u8; 4096];
+        let mut room = [0u8; Reader::VALUE];
         let name = xml_texts::text(document, at, &mut room);
         return table_search::some_row(Lookup::Name, tables, from, count, names, number, name, b"");
     };
@@ -145,7 +146,7 @@ pub fn has_name(
     ensures { λ r. ⌜ r ≡ someRow (isRegistered (attributeOf (now (document .entry)) id (text "extension")) (textOf (now (document .entry)) at)) (rowsAt (now (tables .entry)) from count) ⌝ }
 {
     let Place::At(a, e) = xml_values::plain_attribute(document, id, b"extension") else {
-        let mut room = [0u8; 4096];
+        let mut room = [0u8; Reader::VALUE];
         let number = xml_values::attribute(document, id, b"extension", &mut room);
         return has_name_of(document, at, tables, from, count, names, number);
     };

@@ -6,8 +6,8 @@ use mathlib.Core.List.{List, [], _++_}
 use lib.Dec.{ltb}
 use lib.ListN.{length, replicate}
 use Rattle.text_scan.specs.Choice.{pick}
-use Rattle.judge_document.specs.declared.Answer.{Answer}
-use Rattle.judge_document.specs.declared.Answer.the-variants.{Findings, Refused}
+use Rattle.judge_findings.specs.declared.Answer.{Answer}
+use Rattle.judge_findings.specs.declared.Answer.the-variants.{Findings, Refused}
 use Rattle.judge_check.specs.Check.{Outcome, refuse, checkOf}
 use Rattle.program_texts.specs.Texts.{Put, countText, findingLines, refusalText}
 use Rattle.program_answer.specs.declared.Got.{Got}

@@ -3,7 +3,7 @@ ghost use Prim.Native.Nat.{_+_, _*_, _≤_};
 ghost use lib.ListN.{length};
 ghost use Rattle.program_texts.specs.Texts.{Put};
 ghost use Rattle.program_answer.specs.Desk.{Within, Leaves, deskOf, printed, Prints};
-use judge_document::Answer;
+use judge_findings::Answer;
 
 // The most bytes of a document, and of tables.
 pub const LIMIT: usize = 65536;

@@ -22,15 +22,15 @@ pub struct Part {
     pub after: usize,
 }
 
-fn check_numbers(answer: judge_document::Answer) -> Numbers
+fn check_numbers(answer: judge_findings::Answer) -> Numbers
     ensures { λ r. ⌜ r ≡ checkNumbers answer ⌝ }
 {
     match answer {
-        judge_document::Answer::Findings(count) => Numbers {
+        judge_findings::Answer::Findings(count) => Numbers {
             refusal: 0,
             value: count,
         },
-        judge_document::Answer::Refused(number, returned) => Numbers {
+        judge_findings::Answer::Refused(number, returned) => Numbers {
             refusal: number,
             value: returned,
         },

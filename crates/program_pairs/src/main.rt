@@ -1,7 +1,7 @@
 // Checks documents under two tables files each, merges the two lists, and prints the answer, which is that of the check under the joined file.
 ghost use Prim.Native.Nat.{_+_, _*_, _≤_};
 ghost use lib.ListN.{length};
-use judge_document::Answer;
+use judge_findings::Answer;
 use libc::STDOUT_FILENO;
 use program_answer::Got;
 

@@ -1,67 +1,74 @@
 -- `judge_asking::mark` meets its contract.
 -- Assumes nothing.
-use Rattle.judge_asking.proofs.Asked.{mark-unknown, mark-unlisted, mark-known, mark-root}
+use Rattle.judge_draft.specs.Drafts.{draft}
+use Rattle.judge_answers.specs.Answers.{tablesAt}
+use Rattle.judge_asking.proofs.Marked.{Marking, marking-start, marking-skip, marking-next, marking-over}
 use borrow.Author.Needs.{needs}
 use Rattle.judge_asking.proofs.mark.Statement.{statement}
 use Rattle.judge_asking.proofs.mark.Tie as tie
 
-role-at-requires : tie.Need-role-at-requires
+abbrev Inv-loop : tie.InvT-loop
+Inv-loop document notes header tables places index met n role i₀ m₀ i m =
+    Marking (draft document notes) header (tablesAt tables places) n role i m
+
+abbrev μ-loop : tie.MeasureT-loop
+μ-loop document notes header tables places index met n role i₀ m₀ i m = i
+
+role-at-requires : tie.Need-role-at-requires Inv-loop μ-loop
 role-at-requires c κs = search needs
 
-returns : tie.Need-returns
-returns c = search mark-unknown
+loop-holds : tie.Need-loop-holds Inv-loop μ-loop
+loop-holds c = search marking-start
 
-breaks-2-requires : tie.Need-breaks-2-requires
-breaks-2-requires c κs = search needs
+sub-i : tie.Need-sub-i Inv-loop μ-loop
+sub-i c = search needs
 
-push-requires : tie.Need-push-requires
+asked-requires : tie.Need-asked-requires Inv-loop μ-loop
+asked-requires c κs = search needs
+
+is-behind-requires : tie.Need-is-behind-requires Inv-loop μ-loop
+is-behind-requires c κs = search needs
+
+loop-less : tie.Need-loop-less Inv-loop μ-loop
+loop-less c = search needs
+
+loop-again : tie.Need-loop-again Inv-loop μ-loop
+loop-again c = search marking-skip
+
+demand-requires : tie.Need-demand-requires Inv-loop μ-loop
+demand-requires c κs = search needs
+
+is-broken-requires : tie.Need-is-broken-requires Inv-loop μ-loop
+is-broken-requires c κs = search needs
+
+push-requires : tie.Need-push-requires Inv-loop μ-loop
 push-requires c κs = search needs
 
-returns-2 : tie.Need-returns-2
-returns-2 c = search mark-unlisted
+loop-less-2 : tie.Need-loop-less-2 Inv-loop μ-loop
+loop-less-2 c = search needs
 
-own-requires : tie.Need-own-requires
-own-requires c κs = search needs
+loop-again-2 : tie.Need-loop-again-2 Inv-loop μ-loop
+loop-again-2 c = search marking-next
 
-breaks-3-requires : tie.Need-breaks-3-requires
-breaks-3-requires c κs = search needs
-
-breaks-4-requires : tie.Need-breaks-4-requires
-breaks-4-requires c κs = search needs
-
-push-requires-2 : tie.Need-push-requires-2
-push-requires-2 c κs = search needs
-
-push-requires-3 : tie.Need-push-requires-3
-push-requires-3 c κs = search needs
-
-breaks-1-requires : tie.Need-breaks-1-requires
-breaks-1-requires c κs = search needs
-
-push-requires-4 : tie.Need-push-requires-4
-push-requires-4 c κs = search needs
-
-returns-3 : tie.Need-returns-3
-returns-3 c = search mark-root
-
-returns-4 : tie.Need-returns-4
-returns-4 c = search mark-known
+returns : tie.Need-returns Inv-loop μ-loop
+returns c = search marking-over
 
 pub mark-spec : {M : Type 1} → statement M
 mark-spec =
     tie.close
     (tie.spec
+    Inv-loop
+    μ-loop
     role-at-requires
-    returns
-    breaks-2-requires
+    loop-holds
+    sub-i
+    asked-requires
+    is-behind-requires
+    loop-less
+    loop-again
+    demand-requires
+    is-broken-requires
     push-requires
-    returns-2
-    own-requires
-    breaks-3-requires
-    breaks-4-requires
-    push-requires-2
-    push-requires-3
-    breaks-1-requires
-    push-requires-4
-    returns-3
-    returns-4)
+    loop-less-2
+    loop-again-2
+    returns)

@@ -1,6 +1,6 @@
 -- `judge_document::judge_within` meets its contract.
 -- Assumes nothing.
-use Rattle.judge_document.proofs.Judged.{judged-answer, judged-list}
+use Rattle.judge_document.proofs.Judged.{judged-left}
 use borrow.Author.Needs.{needs}
 use Rattle.judge_document.proofs.judge_within.Statement.{statement}
 use Rattle.judge_document.proofs.judge_within.Tie as tie
@@ -24,7 +24,7 @@ same-length-3 : tie.Need-same-length-3
 same-length-3 c = search needs
 
 returns : tie.Need-returns
-returns c = (search judged-answer, search judged-list)
+returns c = search judged-left
 
 pub judge-within-spec : {M : Type 1} → statement M
 judge-within-spec =

@@ -1,7 +1,7 @@
 -- `judge_document::places_for` meets its contract.
 -- Assumes nothing.
 use mathlib.Core.Path.{refl}
-use Rattle.judge_document.specs.Sized.{placesFor}
+use Rattle.judge_document.specs.Typed.{placesFor}
 use borrow.Author.Needs.{needs}
 use Rattle.judge_document.proofs.places_for.Statement.{statement}
 use Rattle.judge_document.proofs.places_for.Tie as tie

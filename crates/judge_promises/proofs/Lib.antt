@@ -1,0 +1,4 @@
+pub mod Classes
+pub mod Joined
+pub mod Demand2
+pub mod Demand3
