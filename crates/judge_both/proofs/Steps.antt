@@ -17,11 +17,11 @@ use Rattle.table_join.specs.Joins.{Joins}
 use Rattle.judge_findings.specs.declared.Answer.{Answer}
 use Rattle.judge_findings.specs.declared.Answer.the-variants.{Findings, Refused}
 use Rattle.judge_check.specs.Check.{Outcome, checkOf}
-use Rattle.judge_check.specs.Check.{Leaves as Checks}
+use Rattle.judge_check.specs.Check.{CheckLeft}
 use Rattle.judge_promises.specs.Accepted.{foundIn, Accepted}
 use Rattle.judge_promises.proofs.Demand2.{accepted-check}
 use Rattle.judge_promises.proofs.Demand3.{demand-3}
-use Rattle.judge_both.specs.Both.{Both, asAnswer, merging, afterFirst, afterSecond, bothOf, Leaves}
+use Rattle.judge_both.specs.Both.{Both, asAnswer, merging, afterFirst, afterSecond, bothOf, BothLeft}
 
 module _ (m : Merged) where
   pub kept-as : (n : ℕ) → m ≡ Kept n → Findings n ≡ asAnswer m
@@ -54,8 +54,8 @@ module _ (first second out : List ℕ) (n m : ℕ) (x : Merged) (out′ : List �
   fronts-list = both-whole .leaves
 
 -- ---- the second check
-module _ (s b first : List ℕ) (n : ℕ) (scratch table second out : List ℕ) (t : Answer) (scratch′ table′ second′ : List ℕ) (k : Checks (checkOf s b scratch table second) t scratch′ table′ second′) where
-  pub second-refused : (number value : ℕ) → t ≡ Refused number value → Leaves (afterSecond first n (checkOf s b scratch table second) out (checkOf s b scratch table second .answer)) (Refused number value) scratch′ table′ first second′ out
+module _ (s b first : List ℕ) (n : ℕ) (scratch table second out : List ℕ) (t : Answer) (scratch′ table′ second′ : List ℕ) (k : CheckLeft (checkOf s b scratch table second) t scratch′ table′ second′) where
+  pub second-refused : (number value : ℕ) → t ≡ Refused number value → BothLeft (afterSecond first n (checkOf s b scratch table second) out (checkOf s b scratch table second .answer)) (Refused number value) scratch′ table′ first second′ out
   second-refused number value f =
       let g : checkOf s b scratch table second .answer ≡ Refused number value = sym (k .answers) ∙ f in
       rw g record { answers = refl; scratches = k .scratches; tables = k .tables; firsts = refl; seconds = k .lists; outs = refl }
@@ -67,7 +67,7 @@ module _ (s b first : List ℕ) (n : ℕ) (scratch table second out : List ℕ) 
     pub second-there : m * width ≤ length second′
     second-there = rw (k .lists) (front-there s b scratch table second m answered)
 
-    pub second-merged : (q : Answer) (out′ : List ℕ) → q ≡ asAnswer (merging first n second′ m out .answer) → out′ ≡ merging first n second′ m out .list → Leaves (afterSecond first n (checkOf s b scratch table second) out (checkOf s b scratch table second .answer)) q scratch′ table′ first second′ out′
+    pub second-merged : (q : Answer) (out′ : List ℕ) → q ≡ asAnswer (merging first n second′ m out .answer) → out′ ≡ merging first n second′ m out .list → BothLeft (afterSecond first n (checkOf s b scratch table second) out (checkOf s b scratch table second .answer)) q scratch′ table′ first second′ out′
     second-merged q out′ g h =
         rw answered record {
           answers = g ∙ ap (λ l. asAnswer (merging first n l m out .answer)) (k .lists);
@@ -79,8 +79,8 @@ module _ (s b first : List ℕ) (n : ℕ) (scratch table second out : List ℕ) 
         }
 
 -- ---- the first check
-module _ (s a b scratch table first second out : List ℕ) (r : Answer) (scratch′ table′ first′ : List ℕ) (l : Checks (checkOf s a scratch table first) r scratch′ table′ first′) where
-  pub first-refused : (number value : ℕ) → r ≡ Refused number value → Leaves (bothOf s a b scratch table first second out) (Refused number value) scratch′ table′ first′ second out
+module _ (s a b scratch table first second out : List ℕ) (r : Answer) (scratch′ table′ first′ : List ℕ) (l : CheckLeft (checkOf s a scratch table first) r scratch′ table′ first′) where
+  pub first-refused : (number value : ℕ) → r ≡ Refused number value → BothLeft (bothOf s a b scratch table first second out) (Refused number value) scratch′ table′ first′ second out
   unfolding bothOf
   first-refused number value e =
       let f : checkOf s a scratch table first .answer ≡ Refused number value = sym (l .answers) ∙ e in
@@ -93,7 +93,7 @@ module _ (s a b scratch table first second out : List ℕ) (r : Answer) (scratch
     pub first-there : n * width ≤ length first′
     first-there = rw (l .lists) (front-there s a scratch table first n its-first)
 
-    pub both-checked : (q : Answer) (scratch″ table″ second′ out′ : List ℕ) → Leaves (afterSecond first′ n (checkOf s b scratch′ table′ second) out (checkOf s b scratch′ table′ second .answer)) q scratch″ table″ first′ second′ out′ → Leaves (bothOf s a b scratch table first second out) q scratch″ table″ first′ second′ out′
+    pub both-checked : (q : Answer) (scratch″ table″ second′ out′ : List ℕ) → BothLeft (afterSecond first′ n (checkOf s b scratch′ table′ second) out (checkOf s b scratch′ table′ second .answer)) q scratch″ table″ first′ second′ out′ → BothLeft (bothOf s a b scratch table first second out) q scratch″ table″ first′ second′ out′
     unfolding bothOf
     both-checked q scratch″ table″ second′ out′ k = rw (its-first, ← l .lists, ← l .scratches, ← l .tables) k
 

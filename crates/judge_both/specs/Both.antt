@@ -55,7 +55,7 @@ bothOf s a b scratch table first second out =
     afterFirst s b (checkOf s a scratch table first) second out (checkOf s a scratch table first .answer)
 
 -- what is answered and left
-pub record Leaves (x : Both) (answer : Answer) (scratch table first second out : List ℕ) : Type 0 where
+pub record BothLeft (x : Both) (answer : Answer) (scratch table first second out : List ℕ) : Type 0 where
   pub answers : answer ≡ x .answer
   pub scratches : scratch ≡ x .scratch
   pub tables : table ≡ x .table

@@ -29,7 +29,7 @@ use Rattle.judge_findings.specs.declared.Answer.the-variants.{Findings, Refused
 use Rattle.judge_document.specs.Drafted.{draftOf}
 use Rattle.judge_check.specs.Long.{longValue}
 use Rattle.judge_findings.specs.Room.{answerIn, listIn, FindingsLeft}
-use Rattle.judge_check.specs.Check.{Outcome, cleared, afterReading, underFile, checkOf, Leaves}
+use Rattle.judge_check.specs.Check.{Outcome, cleared, afterReading, underFile, checkOf, CheckLeft}
 use Rattle.judge_check.proofs.Values.{none-long}
 
 -- ---- what a reading answered
@@ -60,7 +60,7 @@ read-as s table (elements n rows) e a after l count f = go (leb (4 * n) (length 
     go false q g h = refused-not-elements count 9 n (sym g ∙ f)
 
 -- ---- a document that is not read
-not-read : (s : List ℕ) (t : Tables) (scratch table list : List ℕ) (x : Read) (a : Reading) (after : List ℕ) → Reads x table a after → (number place : ℕ) → a ≡ NotRead number place → Leaves (afterReading s t scratch table list x) (Refused number place) scratch after list
+not-read : (s : List ℕ) (t : Tables) (scratch table list : List ℕ) (x : Read) (a : Reading) (after : List ℕ) → Reads x table a after → (number place : ℕ) → a ≡ NotRead number place → CheckLeft (afterReading s t scratch table list x) (Refused number place) scratch after list
 not-read s t scratch table list (refused n p) a after l number place f =
     let i : n ≡ number = first n p number place (sym (l .answers) ∙ f) in
     let j : p ≡ place = second n p number place (sym (l .answers) ∙ f) in
@@ -73,7 +73,7 @@ not-read s t scratch table list (refused n p) a after l number place f =
     second n p m q e = cc
 not-read s t scratch table list (elements n rows) a after l number place f = go (leb (4 * n) (length table)) refl (l .answers) (l .leaves)
   where
-    go : (b : Bool) → leb (4 * n) (length table) ≡ b → a ≡ pick b (Elements n) (NotRead 9 n) → after ≡ pick b (rows ++ drop (4 * n) table) table → Leaves (afterReading s t scratch table list (elements n rows)) (Refused number place) scratch after list
+    go : (b : Bool) → leb (4 * n) (length table) ≡ b → a ≡ pick b (Elements n) (NotRead 9 n) → after ≡ pick b (rows ++ drop (4 * n) table) table → CheckLeft (afterReading s t scratch table list (elements n rows)) (Refused number place) scratch after list
     go true q g h = elements-not-refused n number place (sym g ∙ f)
     go false q g h =
         let i : 9 ≡ number = first 9 n number place (sym g ∙ f) in
@@ -87,7 +87,7 @@ not-read s t scratch table list (elements n rows) a after l number place f = go 
         second n p m q e = cc
 
 module _ (s table : List ℕ) (a : Reading) (after : List ℕ) (l : Reads (elementsOf s) table a after) where
-  pub under-refused : (number place : ℕ) → a ≡ NotRead number place → (t : Tables) (scratch list : List ℕ) → Leaves (afterReading s t scratch table list (elementsOf s)) (Refused number place) scratch after list
+  pub under-refused : (number place : ℕ) → a ≡ NotRead number place → (t : Tables) (scratch list : List ℕ) → CheckLeft (afterReading s t scratch table list (elementsOf s)) (Refused number place) scratch after list
   under-refused number place f t scratch list = not-read s t scratch table list (elementsOf s) a after l number place f
 
   -- ---- a document that is read
@@ -115,7 +115,7 @@ module _ (s table : List ℕ) (a : Reading) (after : List ℕ) (l : Reads (eleme
     pub under-few : length (take (4 * count - 0) after) / 4 ≤ elementsLimit
     under-few = omega (arith, ap length front, its-rows .wide, its-rows .few)
 
-    pub under-judged : (t : Tables) (scratch scratch′ list list′ : List ℕ) (r : Answer) → scratch′ ≡ cleared scratch → FindingsLeft (findingsOf (draftOf s (take (4 * count - 0) after)) t) list r list′ → Leaves (afterReading s t scratch table list (elementsOf s)) r scratch′ after list′
+    pub under-judged : (t : Tables) (scratch scratch′ list list′ : List ℕ) (r : Answer) → scratch′ ≡ cleared scratch → FindingsLeft (findingsOf (draftOf s (take (4 * count - 0) after)) t) list r list′ → CheckLeft (afterReading s t scratch table list (elementsOf s)) r scratch′ after list′
     under-judged t scratch scratch′ list list′ r g h =
         rw (its .is, le-leb (4 * count) (length table) (its .room), none-long s (its .rows)) record {
           answers = h .answers ∙ ap (λ x. answerIn (findingsOf (draftOf s x) t) list) front;
@@ -126,17 +126,17 @@ module _ (s table : List ℕ) (a : Reading) (after : List ℕ) (l : Reads (eleme
 
 -- ---- the chain
 module _ (s file scratch table list : List ℕ) where
-  pub refused-1 : documentLimit < length s → Leaves (checkOf s file scratch table list) (Refused 1 (length s)) scratch table list
+  pub refused-1 : documentLimit < length s → CheckLeft (checkOf s file scratch table list) (Refused 1 (length s)) scratch table list
   unfolding checkOf
   refused-1 h = rw (lt-ltb documentLimit (length s) h) record { answers = refl; scratches = refl; tables = refl; lists = refl }
 
   module _ (a : length s ≤ documentLimit) where
-    pub refused-2 : tablesLimit < length file → Leaves (checkOf s file scratch table list) (Refused 2 (length file)) scratch table list
+    pub refused-2 : tablesLimit < length file → CheckLeft (checkOf s file scratch table list) (Refused 2 (length file)) scratch table list
     unfolding checkOf
     refused-2 h = rw (le-ltb documentLimit (length s) a, lt-ltb tablesLimit (length file) h) record { answers = refl; scratches = refl; tables = refl; lists = refl }
 
     module _ (b : length file ≤ tablesLimit) where
-      pub refused-3 : length scratch < scratchLimit → Leaves (checkOf s file scratch table list) (Refused 3 scratchLimit) scratch table list
+      pub refused-3 : length scratch < scratchLimit → CheckLeft (checkOf s file scratch table list) (Refused 3 scratchLimit) scratch table list
       unfolding checkOf
       refused-3 h = rw (le-ltb documentLimit (length s) a, le-ltb tablesLimit (length file) b, lt-ltb (length scratch) scratchLimit h) record { answers = refl; scratches = refl; tables = refl; lists = refl }
 
@@ -145,10 +145,10 @@ module _ (s file scratch table list : List ℕ) where
         unfolding checkOf
         come = rw (le-ltb documentLimit (length s) a, le-ltb tablesLimit (length file) b, le-ltb (length scratch) scratchLimit c, e)
 
-        pub refused-4 : (place : ℕ) → x ≡ Accepted.Refused place → Leaves (checkOf s file scratch table list) (Refused 4 place) scratch table list
+        pub refused-4 : (place : ℕ) → x ≡ Accepted.Refused place → CheckLeft (checkOf s file scratch table list) (Refused 4 place) scratch table list
         refused-4 place f = rw (come, f) record { answers = refl; scratches = refl; tables = refl; lists = refl }
 
-        pub all-accepted : (c cs n ns h hs : ℕ) → x ≡ Accepted.Tables c cs n ns h hs → (r : Answer) (scratch′ table′ list′ : List ℕ) → Leaves (afterReading s (tablesAt file (record { codes = c; ncodes = cs; names = n; nnames = ns; history = h; nhistory = hs; kind = Neither; set = 0; first = 0; several = false })) scratch table list (elementsOf s)) r scratch′ table′ list′ → Leaves (checkOf s file scratch table list) r scratch′ table′ list′
+        pub all-accepted : (c cs n ns h hs : ℕ) → x ≡ Accepted.Tables c cs n ns h hs → (r : Answer) (scratch′ table′ list′ : List ℕ) → CheckLeft (afterReading s (tablesAt file (record { codes = c; ncodes = cs; names = n; nnames = ns; history = h; nhistory = hs; kind = Neither; set = 0; first = 0; several = false })) scratch table list (elementsOf s)) r scratch′ table′ list′ → CheckLeft (checkOf s file scratch table list) r scratch′ table′ list′
         unfolding tablesOf
         all-accepted c cs n ns h hs f r scratch′ table′ list′ l =
             let g : accepted file ≡ Accepted.Tables c cs n ns h hs = sym e ∙ f in

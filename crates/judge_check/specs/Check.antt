@@ -73,7 +73,7 @@ checkOf document file scratch table list =
     (underFile document file scratch table list (accepted file))))
 
 -- what is answered and left is an outcome
-pub record Leaves (x : Outcome) (answer : Answer) (scratch table list : List ℕ) : Type 0 where
+pub record CheckLeft (x : Outcome) (answer : Answer) (scratch table list : List ℕ) : Type 0 where
   pub answers : answer ≡ x .answer
   pub scratches : scratch ≡ x .scratch
   pub tables : table ≡ x .table

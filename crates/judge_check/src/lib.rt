@@ -5,7 +5,7 @@ ghost use lib.ListN.{length};
 ghost use Rattle.xml_reader.specs.Limits.{scratchLimit};
 ghost use Rattle.xml_elements.specs.Elements.{elementsOf};
 ghost use Rattle.judge_answers.specs.Answers.{tablesAt};
-ghost use Rattle.judge_check.specs.Check.{cleared, afterReading, checkOf, Leaves};
+ghost use Rattle.judge_check.specs.Check.{cleared, afterReading, checkOf, CheckLeft};
 use judge_answers::Places;
 use judge_document::judge;
 use judge_findings::Answer;
@@ -35,7 +35,7 @@ fn check_under(
     list: &mut [u32],
 ) -> Answer
     requires { ⌜ scratchLimit ≤ length (now scratch) ⌝ }
-    ensures { λ r. ⌜ Leaves (afterReading (now (document .entry)) (tablesAt (now (tables .entry)) places) (now (scratch .entry)) (now (elements .entry)) (now (list .entry)) (elementsOf (now (document .entry)))) r (now (scratch .exit)) (now (elements .exit)) (now (list .exit)) ⌝ }
+    ensures { λ r. ⌜ CheckLeft (afterReading (now (document .entry)) (tablesAt (now (tables .entry)) places) (now (scratch .entry)) (now (elements .entry)) (now (list .entry)) (elementsOf (now (document .entry)))) r (now (scratch .exit)) (now (elements .exit)) (now (list .exit)) ⌝ }
 {
     match xml_elements::read(document, elements) {
         xml_elements::Answer::Refused(number, place) => Answer::Refused(number, place),
@@ -54,7 +54,7 @@ pub fn check(
     elements: &mut [u32],
     list: &mut [u32],
 ) -> Answer
-    ensures { λ r. ⌜ Leaves (checkOf (now (document .entry)) (now (tables .entry)) (now (scratch .entry)) (now (elements .entry)) (now (list .entry))) r (now (scratch .exit)) (now (elements .exit)) (now (list .exit)) ⌝ }
+    ensures { λ r. ⌜ CheckLeft (checkOf (now (document .entry)) (now (tables .entry)) (now (scratch .entry)) (now (elements .entry)) (now (list .entry))) r (now (scratch .exit)) (now (elements .exit)) (now (list .exit)) ⌝ }
 {
     if Reader::DOCUMENT < document.len() {
         return Answer::Refused(1, document.len());

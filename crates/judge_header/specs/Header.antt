@@ -1,25 +1,19 @@
--- Procedures 5 to 13 (document 01, "From 002 section 1.1 to 1.3"), and the type of a document.
+-- The header of a document: its one id, code, effectiveTime, setId and versionNumber, what they have where 5, 7, 10 and 11 hold, and the type of a document.
 -- Assumes nothing.
-use Prim.Native.Nat.{ℕ, _+_}
+use Prim.Native.Nat.{ℕ}
 use mathlib.Core.Bool.{Bool}
 use mathlib.Core.List.{List}
-use lib.Dec.{eqb, ltb}
-use lib.ListN.{length}
-use Rattle.text_scan.specs.Choice.{pick, _or_, _and_, not}
+use lib.Dec.{ltb}
+use Rattle.text_scan.specs.Choice.{pick, _or_, _and_}
 use Rattle.text_scan.specs.Bytes.{text}
-use Rattle.text_scan.specs.declared.Found.{Found}
 use Rattle.text_facts.specs.Strings.{isGuid}
 use Rattle.text_numbers.specs.Numbers.{versionOf}
 use Rattle.text_numbers.specs.Days.{isDay}
 use Rattle.judge_paths.specs.declared.DocumentType.{DocumentType}
 use Rattle.judge_paths.specs.declared.DocumentType.the-variants.{Neither, Registration, Request}
-use Rattle.judge_paths.specs.Roles.{Root, Id, Code, EffectiveTime, SetId, VersionNumber, Labeler, RequestLabeler}
-use Rattle.judge_draft.specs.declared.Demand.{Demand}
-use Rattle.judge_draft.specs.declared.Demand.the-variants.{CodeRow, NoDocument, NoVersion}
-use Rattle.judge_below.specs.declared.Test.the-variants.{Any}
-use Rattle.judge_draft.specs.Drafts.{Draft, is, attribute, attributeIs}
-use Rattle.judge_below.specs.Chosen.{chosen, wanted, one, oneHas, the, onlyKid}
-use Rattle.judge_draft.specs.Demands.{demandIf}
+use Rattle.judge_paths.specs.Roles.{Id, Code, EffectiveTime, SetId, VersionNumber}
+use Rattle.judge_draft.specs.Drafts.{Draft, attribute, attributeIs}
+use Rattle.judge_below.specs.Chosen.{oneHas, onlyKid}
 use Rattle.judge_header.specs.declared.Header.{Header}
 use Rattle.judge_header.specs.declared.Property.{Property}
 use Rattle.judge_header.specs.declared.Property.the-variants.{GuidRoot, OfType, Day, Version}
@@ -84,44 +78,3 @@ has d GuidRoot k = guidRoot d k
 has d OfType k = typedCode d k
 has d Day k = dayValue d k
 has d Version k = versionValue d k
-
--- ---- the procedures
--- element n is the one of its role
-unfoldable pub oneAt : Draft → Found → ℕ → ℕ → Bool
-oneAt d found r n = is d r n and one found
-
--- one child of the root with a property: a wrong number is found at the root, any other fault at the child
-unfoldable pub oneOfRoot : Draft → Found → ℕ → (ℕ → Bool) → ℕ → Bool
-oneOfRoot d found r p n = pick (is d Root n) (not (one found)) (oneAt d found r n and not (p n))
-
-unfoldable pub breaks5 : Draft → Header → ℕ → Bool
-breaks5 d h n = oneOfRoot d (h .id) Id (guidRoot d) n
-
-unfoldable pub demand6 : Draft → Header → ℕ → Demand
-demand6 d h n = demandIf (is d Id n and idHolds d h) (NoDocument n)
-
-unfoldable pub breaks7 : Draft → Header → ℕ → Bool
-breaks7 d h n = oneOfRoot d (h .code) Code (typedCode d) n
-
-unfoldable pub demand8 : Draft → Header → ℕ → Demand
-demand8 d h n = demandIf (is d Code n and hasType d h) (CodeRow n)
-
-unfoldable pub breaks9 : Draft → Header → ℕ → Bool
-breaks9 d h n = oneOfRoot d (h .time) EffectiveTime (dayValue d) n
-
-unfoldable pub breaks10 : Draft → Header → ℕ → Bool
-breaks10 d h n = oneOfRoot d (h .set) SetId (guidRoot d) n
-
-unfoldable pub breaks11 : Draft → Header → ℕ → Bool
-breaks11 d h n = oneOfRoot d (h .version) VersionNumber (versionValue d) n
-
--- 12: at versionNumber
-unfoldable pub demand12 : Draft → Header → ℕ → Demand
-demand12 d h n = demandIf (is d VersionNumber n and setHolds d h and versionHolds d h) (NoVersion (the (h .set)) n)
-
--- 13: a labeler stands three levels below the root; that of a request has a role of its own
-abbrev pub labelers : Draft → ℕ → ℕ
-labelers d n = length (chosen d (wanted RequestLabeler 3 Any) n) + length (chosen d (wanted Labeler 3 Any) n)
-
-unfoldable pub breaks13 : Draft → Header → ℕ → Bool
-breaks13 d h n = is d Root n and hasType d h and not (eqb (labelers d n) 1)

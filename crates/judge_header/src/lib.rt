@@ -1,11 +1,8 @@
-// Procedures 5 to 13, and the type of a document.
+// The header of a document and its type.
 ghost use mathlib.Core.Path.{_≡_};
 ghost use Rattle.judge_draft.specs.Drafts.{draft};
 ghost use Rattle.judge_below.specs.Chosen.{one, oneHas, the};
 ghost use Rattle.judge_header.specs.Header.{headerOf, idHolds, setHolds, codeIs, typedCode, hasType, typeOf, versionHolds, has};
-
-mod root;
-
 use judge_below::only_kid;
 use judge_draft::attribute_is;
 use judge_draft::attribute_is_day;
@@ -13,15 +10,6 @@ use judge_draft::attribute_is_guid;
 use judge_draft::attribute_version;
 use judge_paths::DocumentType;
 use judge_paths::role;
-pub use root::breaks_5;
-pub use root::breaks_7;
-pub use root::breaks_9;
-pub use root::breaks_10;
-pub use root::breaks_11;
-pub use root::breaks_13;
-pub use root::demand_6;
-pub use root::demand_8;
-pub use root::demand_12;
 use text_scan::Found;
 
 // The one id, code, effectiveTime, setId and versionNumber of the root.
@@ -43,7 +31,7 @@ pub enum Property {
 }
 
 // Whether there is one.
-fn is_one(found: Found) -> bool
+pub fn is_one(found: Found) -> bool
     ensures { λ r. ⌜ r ≡ one found ⌝ }
 {
     match found {
@@ -101,7 +89,7 @@ fn typed_code(document: &[u8], notes: &[u32], k: usize) -> bool
 }
 
 // Whether element k has this property.
-fn has(document: &[u8], notes: &[u32], property: Property, k: usize) -> bool
+pub fn has(document: &[u8], notes: &[u32], property: Property, k: usize) -> bool
     ensures { λ r. ⌜ r ≡ has (draft (now (document .entry)) (now (notes .entry))) property k ⌝ }
 {
     match property {

@@ -18,19 +18,19 @@ use Rattle.xml_values.proofs.Unlisted.{bare-other, unlisted-says}
 use Rattle.judge_paths.specs.Roles.{Unlisted, Root}
 use Rattle.judge_paths.specs.Attributes.{attributeTable, listedNames}
 use Rattle.judge_draft.specs.Drafts.{Draft, draft, role, first, is, isKnown, attribute}
-use Rattle.judge_listed.specs.Listed.{isDocument, hasSchema, isDeclared, rootIsRight, breaks1, breaks2, listedAt, otherThan, breaks3, hasSpace, breaks4}
+use Rattle.judge_listed.specs.Listed.{isNamedDocument, hasSchema, isDeclared, rootIsRight, breaks1, breaks2, listsAt, otherThan, breaks3, hasSpace, breaks4}
 
 -- ---- the root's name
 name-past : (s : List ℕ) (f : ℕ) → length s ≤ f → nameAt s (f + 1) ≡ []
 name-past s f h = rw (drop-of-length-le s {i = f + 1} (omega arith)) (take-nil (nameEnd s (f + 1) - (f + 1)))
 
 module _ (s notes : List ℕ) (n f : ℕ) (e : f ≡ first (draft s notes) n) where
-  pub unnamed : length s ≤ f → false ≡ isDocument (draft s notes) n
-  unfolding isDocument draft equal pairs
+  pub unnamed : length s ≤ f → false ≡ isNamedDocument (draft s notes) n
+  unfolding isNamedDocument draft equal pairs
   unnamed h = sym (ap (λ (name : List ℕ). equal name (text "document")) (ap (λ (k : ℕ). nameAt s (k + 1)) (sym e) ∙ name-past s f h))
 
-  pub named : (k : ℕ) → k ≡ nameEnd s (f + 1) → (r : Bool) → r ≡ equal (take (k - (f + 1)) (drop (f + 1) s)) (text "document") → r ≡ isDocument (draft s notes) n
-  unfolding isDocument draft
+  pub named : (k : ℕ) → k ≡ nameEnd s (f + 1) → (r : Bool) → r ≡ equal (take (k - (f + 1)) (drop (f + 1) s)) (text "document") → r ≡ isNamedDocument (draft s notes) n
+  unfolding isNamedDocument draft
   named k g r h = h ∙ rw (g, e)
 
 -- ---- 1
@@ -53,7 +53,7 @@ module _ (d : Draft) (n : ℕ) where
     unfolding isDeclared
     wrong-space f = rw (← e, f)
 
-  module _ (a : Bool) (e : a ≡ isDocument d n) where
+  module _ (a : Bool) (e : a ≡ isNamedDocument d n) where
     pub right-name : a ≡ true → (r : Bool) → r ≡ isDeclared d n → r ≡ rootIsRight d n
     unfolding rootIsRight
     right-name f r g = g ∙ rw (← e, f)
@@ -82,7 +82,7 @@ module _ (s notes : List ℕ) (n f : ℕ) (e : f ≡ first (draft s notes) n) wh
   unfolding breaks3 otherThan draft
   three-bare b g h =
       let d : Draft = draft s notes in
-      sym (rw (bare-other s (first d n) (listedAt d n) (rw e at (sym g ∙ h))) (and-false (isKnown d n)))
+      sym (rw (bare-other s (first d n) (listsAt d n) (rw e at (sym g ∙ h))) (and-false (isKnown d n)))
 
   pub four-bare : (b : Bool) → b ≡ isBare s f → b ≡ true → false ≡ breaks4 (draft s notes) n
   unfolding breaks4 attribute draft withoutSpace every isOneOf

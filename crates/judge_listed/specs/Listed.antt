@@ -13,8 +13,8 @@ use Rattle.judge_paths.specs.Attributes.{attributeTable, listedNames}
 use Rattle.judge_draft.specs.Drafts.{Draft, role, first, is, isKnown, attribute, attributeIs}
 
 -- 1: as 002 section 1.2 prints them
-unfoldable pub isDocument : Draft → ℕ → Bool
-isDocument d n = equal (nameAt (d .bytes) (first d n + 1)) (text "document")
+unfoldable pub isNamedDocument : Draft → ℕ → Bool
+isNamedDocument d n = equal (nameAt (d .bytes) (first d n + 1)) (text "document")
 
 unfoldable pub hasSchema : Draft → ℕ → Bool
 hasSchema d n =
@@ -25,7 +25,7 @@ unfoldable pub isDeclared : Draft → ℕ → Bool
 isDeclared d n = attributeIs d (text "xmlns") (text "urn:hl7-org:v3") n and hasSchema d n
 
 unfoldable pub rootIsRight : Draft → ℕ → Bool
-rootIsRight d n = isDocument d n and isDeclared d n
+rootIsRight d n = isNamedDocument d n and isDeclared d n
 
 unfoldable pub breaks1 : Draft → ℕ → Bool
 breaks1 d n = is d Root n and not (rootIsRight d n)
@@ -34,15 +34,15 @@ unfoldable pub breaks2 : Draft → ℕ → Bool
 breaks2 d n = is d Unlisted n
 
 -- the attributes that element n lists
-abbrev pub listedAt : Draft → ℕ → List (List ℕ)
-listedAt d n = listedNames (role d n) attributeTable
+abbrev pub listsAt : Draft → ℕ → List (List ℕ)
+listsAt d n = listedNames (role d n) attributeTable
 
 -- element n has an attribute that is not empty and has none of the names
 unfoldable pub otherThan : Draft → ℕ → List (List ℕ) → Bool
 otherThan d n names = hasOther (d .bytes) (first d n) names
 
 unfoldable pub breaks3 : Draft → ℕ → Bool
-breaks3 d n = isKnown d n and otherThan d n (listedAt d n)
+breaks3 d n = isKnown d n and otherThan d n (listsAt d n)
 
 -- the code or the extension of element n has a space
 abbrev pub hasSpace : Draft → ℕ → Bool

@@ -3,7 +3,7 @@ ghost use mathlib.Core.Path.{_≡_};
 ghost use Rattle.xml_values.specs.Attributes.{hasOther};
 ghost use Rattle.judge_paths.specs.Attributes.{attributeTable, listedNames};
 ghost use Rattle.judge_draft.specs.Drafts.{draft};
-ghost use Rattle.judge_listed.specs.Listed.{isDocument, hasSchema, isDeclared, rootIsRight, breaks1, breaks2, breaks3, hasSpace, breaks4};
+ghost use Rattle.judge_listed.specs.Listed.{isNamedDocument, hasSchema, isDeclared, rootIsRight, breaks1, breaks2, breaks3, hasSpace, breaks4};
 use judge_draft::attribute_is;
 use judge_draft::attribute_without_space;
 use judge_draft::first_byte;
@@ -15,7 +15,7 @@ use xml_values::has_other_attribute;
 
 // Whether element n is named document.
 fn is_document(document: &[u8], notes: &[u32], n: usize) -> bool
-    ensures { λ r. ⌜ r ≡ isDocument (draft (now (document .entry)) (now (notes .entry))) n ⌝ }
+    ensures { λ r. ⌜ r ≡ isNamedDocument (draft (now (document .entry)) (now (notes .entry))) n ⌝ }
 {
     let first = first_byte(document, notes, n);
     if document.len() <= first {

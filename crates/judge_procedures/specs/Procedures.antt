@@ -15,7 +15,7 @@ use Rattle.judge_draft.specs.Drafts.{Draft}
 use Rattle.judge_draft.specs.Demands.{brokenIf}
 use Rattle.judge_header.specs.declared.Header.{Header}
 use Rattle.judge_listed.specs.Listed.{breaks1, breaks2, breaks3, breaks4}
-use Rattle.judge_header.specs.Header.{breaks5, demand6, breaks7, demand8, breaks9, breaks10, breaks11, demand12, breaks13}
+use Rattle.judge_root.specs.Root.{breaks5, demand6, breaks7, demand8, breaks9, breaks10, breaks11, demand12, breaks13}
 use Rattle.judge_organisations.specs.Organisations.{breaks14, breaks15, breaks16, breaks17, demand18}
 use Rattle.judge_keys.specs.Keys.{breaks19, breaks20, demand21, demand22}
 use Rattle.judge_addresses.specs.Addresses.{breaks24, breaks25}

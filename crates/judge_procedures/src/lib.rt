@@ -41,15 +41,15 @@ fn of_header(document: &[u8], notes: &[u32], header: Header, p: u32, n: usize) -
     ensures { λ r. ⌜ r ≡ demandIn headerProcedures (draft (now (document .entry)) (now (notes .entry))) header p n ⌝ }
 {
     match p {
-        5 => broken_if(judge_header::breaks_5(document, notes, header, n)),
-        6 => judge_header::demand_6(document, notes, header, n),
-        7 => broken_if(judge_header::breaks_7(document, notes, header, n)),
-        8 => judge_header::demand_8(document, notes, header, n),
-        9 => broken_if(judge_header::breaks_9(document, notes, header, n)),
-        10 => broken_if(judge_header::breaks_10(document, notes, header, n)),
-        11 => broken_if(judge_header::breaks_11(document, notes, header, n)),
-        12 => judge_header::demand_12(document, notes, header, n),
-        13 => broken_if(judge_header::breaks_13(document, notes, header, n)),
+        5 => broken_if(judge_root::breaks_5(document, notes, header, n)),
+        6 => judge_root::demand_6(document, notes, header, n),
+        7 => broken_if(judge_root::breaks_7(document, notes, header, n)),
+        8 => judge_root::demand_8(document, notes, header, n),
+        9 => broken_if(judge_root::breaks_9(document, notes, header, n)),
+        10 => broken_if(judge_root::breaks_10(document, notes, header, n)),
+        11 => broken_if(judge_root::breaks_11(document, notes, header, n)),
+        12 => judge_root::demand_12(document, notes, header, n),
+        13 => broken_if(judge_root::breaks_13(document, notes, header, n)),
         _ => Demand::Nothing,
     }
 }

@@ -27,7 +27,8 @@ use Rattle.judge_below.specs.Chosen.{the}
 use Rattle.judge_draft.specs.Demands.{brokenIf, demandIf}
 use Rattle.judge_header.specs.declared.Header.{Header}
 use Rattle.judge_listed.specs.Listed.{breaks1, breaks2, breaks3, breaks4}
-use Rattle.judge_header.specs.Header.{requestCode, idHolds, setHolds, hasType, versionHolds, breaks5, demand6, breaks7, demand8, breaks9, breaks10, breaks11, demand12, breaks13}
+use Rattle.judge_header.specs.Header.{requestCode, idHolds, setHolds, hasType, versionHolds}
+use Rattle.judge_root.specs.Root.{breaks5, demand6, breaks7, demand8, breaks9, breaks10, breaks11, demand12, breaks13}
 use Rattle.judge_organisations.specs.Organisations.{isOneName, nameHolds, dunsId, dunsHolds, breaks14, breaks15, breaks16, breaks17, demand18}
 use Rattle.judge_keys.specs.Keys.{isLabelerId, isRegistrantId, breaks19, breaks20, demand21, demand22}
 use Rattle.judge_paths.specs.declared.DocumentType.the-variants.{Registration, Request}

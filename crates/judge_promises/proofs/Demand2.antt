@@ -32,12 +32,12 @@ use Rattle.judge_notes.proofs.Noted.{notes-length, note-first, note-after}
 use Rattle.judge_document.specs.Drafted.{draftAs, typeIn, draftOf}
 use Rattle.judge_check.specs.Long.{longValue}
 use Rattle.judge_findings.specs.Room.{answerIn, listIn}
-use Rattle.judge_check.specs.Check.{Outcome, cleared, unlessLong, refuse, afterReading, underFile, checkOf, Leaves}
+use Rattle.judge_check.specs.Check.{Outcome, cleared, unlessLong, refuse, afterReading, underFile, checkOf, CheckLeft}
 use Rattle.judge_promises.specs.Accepted.{foundIn, Accepted}
 use Rattle.judge_check.proofs.Values.{none-long}
 
 -- ---- two allowed answers are equal
-pub one-outcome : (x : Outcome) (r r′ : Answer) (s s′ t t′ l l′ : List ℕ) → Leaves x r s t l → Leaves x r′ s′ t′ l′ → (r ≡ r′) × (s ≡ s′) × (t ≡ t′) × (l ≡ l′)
+pub one-outcome : (x : Outcome) (r r′ : Answer) (s s′ t t′ l l′ : List ℕ) → CheckLeft x r s t l → CheckLeft x r′ s′ t′ l′ → (r ≡ r′) × (s ≡ s′) × (t ≡ t′) × (l ≡ l′)
 one-outcome x r r′ s s′ t t′ l l′ a b =
     (a .answers ∙ sym (b .answers), a .scratches ∙ sym (b .scratches), a .tables ∙ sym (b .tables), a .lists ∙ sym (b .lists))
 

@@ -11,20 +11,20 @@ use Rattle.judge_findings.specs.declared.Answer.the-variants.{Findings, Refused
 use Rattle.judge_check.specs.Check.{Outcome, checkOf}
 use Rattle.judge_check.specs.Check as J
 use Rattle.program_texts.specs.Texts.{Put, countText, findingLines, refusalText}
-use Rattle.program_answer.specs.Desk.{limit, Leaves, deskOf, printed, Prints}
+use Rattle.program_answer.specs.Small.{limit, AnswerLeft, smallOf, printed, Prints}
 
 module _ (document file table list : List ℕ) where
-  pub over-document : limit < length document → Leaves (deskOf document file table list) (Refused 1 limit) table list
-  unfolding deskOf
+  pub over-document : limit < length document → AnswerLeft (smallOf document file table list) (Refused 1 limit) table list
+  unfolding smallOf
   over-document h = rw (lt-ltb limit (length document) h) (record { answers = refl; tables = refl; lists = refl })
 
   module _ (h : length document ≤ limit) where
-    pub over-tables : limit < length file → Leaves (deskOf document file table list) (Refused 2 limit) table list
-    unfolding deskOf
+    pub over-tables : limit < length file → AnswerLeft (smallOf document file table list) (Refused 2 limit) table list
+    unfolding smallOf
     over-tables g = rw (le-ltb limit (length document) h, lt-ltb limit (length file) g) (record { answers = refl; tables = refl; lists = refl })
 
-    pub checked : length file ≤ limit → (r : Answer) (s t l : List ℕ) → J.Leaves (checkOf document file (replicate 4096 0) table list) r s t l → Leaves (deskOf document file table list) r t l
-    unfolding deskOf
+    pub checked : length file ≤ limit → (r : Answer) (s t l : List ℕ) → J.CheckLeft (checkOf document file (replicate 4096 0) table list) r s t l → AnswerLeft (smallOf document file table list) r t l
+    unfolding smallOf
     checked g r s t l x = rw (le-ltb limit (length document) h, le-ltb limit (length file) g) (record { answers = x .answers; tables = x .tables; lists = x .lists })
 
 module _ (answer : Answer) (a b l : List ℕ) (r : ℕ) where
@@ -36,5 +36,5 @@ module _ (answer : Answer) (a b l : List ℕ) (r : ℕ) where
   unfolding printed
   refusal-printed n v e p = rw e p
 
-pub run-prints : (x : Outcome) (y : Answer) (t l a b : List ℕ) (r : ℕ) → Leaves x y t l → Put a 0 (printed y l) r b → Prints x r t l a b
+pub run-prints : (x : Outcome) (y : Answer) (t l a b : List ℕ) (r : ℕ) → AnswerLeft x y t l → Put a 0 (printed y l) r b → Prints x r t l a b
 run-prints x y t l a b r e p = record { prints = rw (e .answers, e .lists) at p; tables = e .tables; lists = e .lists }

@@ -9,7 +9,7 @@ use Rattle.judge_check.specs.Check.{Outcome}
 use Rattle.program_texts.proofs.Puts.{put-within}
 use Rattle.program_answer.specs.declared.Got.{Got}
 use Rattle.program_answer.specs.declared.Got.the-variants.{Bytes}
-use Rattle.program_answer.specs.Desk.{Within, Prints}
+use Rattle.program_answer.specs.Small.{Within, Prints}
 
 module _ (g : Got) (n : ℕ) (room : List ℕ) (e : g ≡ Bytes n) (w : Within g room) where
   pub read-within : n ≤ length room

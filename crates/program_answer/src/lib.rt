@@ -2,8 +2,9 @@
 ghost use Prim.Native.Nat.{_+_, _*_, _≤_};
 ghost use lib.ListN.{length};
 ghost use Rattle.program_texts.specs.Texts.{Put};
-ghost use Rattle.program_answer.specs.Desk.{Within, Leaves, deskOf, printed, Prints};
+ghost use Rattle.program_answer.specs.Small.{Within, AnswerLeft, smallOf, printed, Prints};
 use judge_findings::Answer;
+use xml_reader::Reader;
 
 // The most bytes of a document, and of tables.
 pub const LIMIT: usize = 65536;
@@ -33,9 +34,9 @@ pub fn read(file: i32, room: &mut [u8]) -> Got
     Got::Bytes(done)
 }
 
-// The check with 4,096 scratch bytes, of a document and tables within the limit.
+// The check with as many scratch bytes as it asks for, of a document and tables within the limit.
 fn answer(document: &[u8], tables: &[u8], elements: &mut [u32], list: &mut [u32]) -> Answer
-    ensures { λ r. ⌜ Leaves (deskOf (now (document .entry)) (now (tables .entry)) (now (elements .entry)) (now (list .entry))) r (now (elements .exit)) (now (list .exit)) ⌝ }
+    ensures { λ r. ⌜ AnswerLeft (smallOf (now (document .entry)) (now (tables .entry)) (now (elements .entry)) (now (list .entry))) r (now (elements .exit)) (now (list .exit)) ⌝ }
 {
     if LIMIT < document.len() {
         return Answer::Refused(1, LIMIT);
@@ -43,7 +44,7 @@ fn answer(document: &[u8], tables: &[u8], elements: &mut [u32], list: &mut [u32]
     if LIMIT < tables.len() {
         return Answer::Refused(2, LIMIT);
     }
-    let mut scratch = [0u8; 4096];
+    let mut scratch = [0u8; Reader::SCRATCH];
     judge_check::check(document, tables, &mut scratch, elements, list)
 }
 
@@ -67,7 +68,7 @@ pub fn run(
     out: &mut [u8],
 ) -> usize
     requires { ⌜ 64 + 21 * length (now list) ≤ length (now out) ⌝ }
-    ensures { λ r. ⌜ Prints (deskOf (now (document .entry)) (now (tables .entry)) (now (elements .entry)) (now (list .entry))) r (now (elements .exit)) (now (list .exit)) (now (out .entry)) (now (out .exit)) ⌝ }
+    ensures { λ r. ⌜ Prints (smallOf (now (document .entry)) (now (tables .entry)) (now (elements .entry)) (now (list .entry))) r (now (elements .exit)) (now (list .exit)) (now (out .entry)) (now (out .exit)) ⌝ }
 {
     let given = answer(document, tables, elements, list);
     print(given, list, out)

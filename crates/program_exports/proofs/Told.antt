@@ -8,7 +8,7 @@ use Rattle.list_findings.specs.declared.Merged.the-variants.{Findings as Kept, 
 use Rattle.list_findings.specs.Merge.{mergeOf, IsMerged}
 use Rattle.judge_findings.specs.declared.Answer.{Answer}
 use Rattle.judge_findings.specs.declared.Answer.the-variants.{Findings, Refused}
-use Rattle.judge_check.specs.Check.{Outcome as Checking, Leaves}
+use Rattle.judge_check.specs.Check.{Outcome as Checking, CheckLeft}
 use Rattle.xml_values.specs.declared.View.{View}
 use Rattle.xml_values.specs.declared.View.the-variants.{Document, Scratch}
 use Rattle.xml_value_reader.specs.Shown.{ValueOutcome as Reading, Fills}
@@ -24,7 +24,7 @@ module _ (answer : Answer) where
   pub refused : (number value : ℕ) → answer ≡ Refused number value → _≡_ {A = Numbers} (record { refusal = number; value = value }) (checkNumbers answer)
   refused number value e = sym (ap checkNumbers e)
 
-pub check-told : (x : Checking) (answer : Answer) (scratch table list : List ℕ) (r : Numbers) → Leaves x answer scratch table list → r ≡ checkNumbers answer → Checks x r scratch table list
+pub check-told : (x : Checking) (answer : Answer) (scratch table list : List ℕ) (r : Numbers) → CheckLeft x answer scratch table list → r ≡ checkNumbers answer → Checks x r scratch table list
 check-told x answer scratch table list r l e =
     record { answers = e ∙ ap checkNumbers (l .answers); scratches = l .scratches; tables = l .tables; lists = l .lists }
 

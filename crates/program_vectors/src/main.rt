@@ -5,7 +5,7 @@ ghost use Prim.Native.Nat.{_+_, _*_, _/_, _≤_, _<_};
 ghost use mathlib.Core.Path.{_≡_};
 ghost use lib.ListN.{length};
 ghost use Rattle.io.specs.Counts.{Counts};
-ghost use Rattle.program_answer.specs.Desk.{Within};
+ghost use Rattle.program_answer.specs.Small.{Within};
 use libc::STDOUT_FILENO;
 use program_answer::Got;
 

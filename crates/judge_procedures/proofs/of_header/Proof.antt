@@ -1,7 +1,7 @@
 -- `judge_procedures::of_header` meets its contract.
 -- Assumes nothing.
 use mathlib.Core.Path.{refl}
-use Rattle.judge_header.specs.Header.{breaks5, demand6, breaks7, demand8, breaks9, breaks10, breaks11, demand12, breaks13}
+use Rattle.judge_root.specs.Root.{breaks5, demand6, breaks7, demand8, breaks9, breaks10, breaks11, demand12, breaks13}
 use Rattle.judge_procedures.specs.Procedures.{headerProcedures, numbered, demandIn}
 use Rattle.judge_procedures.proofs.Told.{by-test, by-row, no-header}
 use borrow.Author.Needs.{needs}
