@@ -1,27 +1,22 @@
--- The two checks and the merge, one law for each way out; and demand 3 as a law of what they answer.
+-- The two checks and the merge, one law for each way out.
 -- Assumes nothing.
 use mathlib.Core.Path.{_≡_, refl, sym, _∙_, ap}
-use mathlib.Core.Bool.{Bool, true, false}
-use mathlib.Core.List.{List, _++_}
-use Prim.Native.Nat.{ℕ, _+_, _-_, _*_, _/_, _<_, _≤_, _^_}
+use mathlib.Core.List.{List}
+use Prim.Native.Nat.{ℕ, _-_, _*_, _≤_}
 use native.Mathlib.Omega.{arith}
 use lib.ListN.{length, take, drop, length-append}
-use mir.Val.{Fits}
-use mir.Syntax.{w64}
 use Rattle.list_findings.specs.declared.Merged.{Merged}
 use Rattle.list_findings.specs.declared.Merged.the-variants.{Findings as Kept, Refused as NotMerged}
 use Rattle.list_findings.specs.Findings.{width, flat}
-use Rattle.list_findings.specs.Merge.{IsMerged, mergeOf}
+use Rattle.list_findings.specs.Merge.{IsMerged}
 use Rattle.list_findings.proofs.Records.{length-flat}
-use Rattle.table_join.specs.Joins.{Joins}
 use Rattle.judge_findings.specs.declared.Answer.{Answer}
 use Rattle.judge_findings.specs.declared.Answer.the-variants.{Findings, Refused}
-use Rattle.judge_check.specs.Check.{Outcome, checkOf}
+use Rattle.judge_check.specs.Check.{checkOf}
 use Rattle.judge_check.specs.Check.{CheckLeft}
-use Rattle.judge_promises.specs.Accepted.{foundIn, Accepted}
-use Rattle.judge_promises.proofs.Demand2.{accepted-check}
-use Rattle.judge_promises.proofs.Demand3.{demand-3}
-use Rattle.judge_both.specs.Both.{Both, asAnswer, merging, afterFirst, afterSecond, bothOf, BothLeft}
+use Rattle.judge_check.specs.Accepted.{foundIn}
+use Rattle.judge_check.proofs.Accepted.{accepted-check}
+use Rattle.judge_both.specs.Both.{asAnswer, merging, afterSecond, bothOf, BothLeft}
 
 module _ (m : Merged) where
   pub kept-as : (n : ℕ) → m ≡ Kept n → Findings n ≡ asAnswer m
@@ -96,11 +91,3 @@ module _ (s a b scratch table first second out : List ℕ) (r : Answer) (scratch
     pub both-checked : (q : Answer) (scratch″ table″ second′ out′ : List ℕ) → BothLeft (afterSecond first′ n (checkOf s b scratch′ table′ second) out (checkOf s b scratch′ table′ second .answer)) q scratch″ table″ first′ second′ out′ → BothLeft (bothOf s a b scratch table first second out) q scratch″ table″ first′ second′ out′
     unfolding bothOf
     both-checked q scratch″ table″ second′ out′ k = rw (its-first, ← l .lists, ← l .scratches, ← l .tables) k
-
--- ---- demand 3: what is answered and written is what the check under the joined file answers and writes
-pub demand-3-met : (s c a b : List ℕ) → Joins c a b → (scratch table first second out scratch′ table′ : List ℕ) (n m k : ℕ) → checkOf s a scratch table first .answer ≡ Findings n → checkOf s b (checkOf s a scratch table first .scratch) (checkOf s a scratch table first .table) second .answer ≡ Findings m → checkOf s c scratch′ table′ out .answer ≡ Findings k → (bothOf s a b scratch table first second out .answer ≡ checkOf s c scratch′ table′ out .answer) × (bothOf s a b scratch table first second out .out ≡ checkOf s c scratch′ table′ out .list)
-unfolding bothOf merging
-demand-3-met s c a b j scratch table first second out scratch′ table′ n m k e f g =
-    let x = checkOf s a scratch table first in
-    let d = demand-3 s c a b j scratch table first (x .scratch) (x .table) second scratch′ table′ out n m k e f g in
-    rw (e, f) (ap (λ o. asAnswer (o .answer)) d ∙ sym g, ap (λ o. o .list) d)

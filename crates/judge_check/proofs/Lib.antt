@@ -1,3 +1,4 @@
 pub mod Cleared
 pub mod Values
 pub mod Chain
+pub mod Accepted

@@ -1,30 +1,29 @@
 -- Demand 3, of checks that are not refused: the merge of the lists under two files is accepted, and is the list of the check under their join.
 -- Assumes nothing.
-use mathlib.Core.Path.{_≡_, refl, sym, _∙_, ap}
-use mathlib.Core.Bool.{Bool, true, false}
-use mathlib.Core.List.{List, _++_}
-use Prim.Native.Nat.{ℕ, _+_, _*_, _/_, _<_, _≤_}
+use mathlib.Core.Path.{_≡_, sym, _∙_, ap}
+use mathlib.Core.List.{List}
+use Prim.Native.Nat.{ℕ, _*_, _/_, _≤_}
 use native.Mathlib.Omega.{arith}
 use borrow.Author.Tests.{le-leb}
-use lib.Dec.{leb}
 use lib.ListN.{length, take, drop}
 use lib.Seq.{take-append-seam}
-use Rattle.text_scan.specs.Choice.{pick}
-use Rattle.text_scan.specs.declared.Found.the-variants.{At, Nothing}
+use Rattle.text_scan.specs.declared.Found.the-variants.{Nothing}
 use Rattle.list_findings.specs.declared.Finding.{Finding}
-use Rattle.list_findings.specs.declared.Merged.the-variants.{Findings as MergedFindings, Refused as MergedRefused}
-use Rattle.list_findings.specs.Findings.{width, flat, filled, records}
+use Rattle.list_findings.specs.declared.Merged.the-variants.{Findings as MergedFindings}
+use Rattle.list_findings.specs.Findings.{width, flat, filled}
 use Rattle.list_findings.specs.Merge.{Merging as Merging, firstBad, merged, firstFault, mergeOf}
 use Rattle.list_findings.proofs.Records.{records-flat, length-flat}
-use Rattle.table_file.specs.Accepted.{Tables, tablesOf}
+use Rattle.table_file.specs.Accepted.{tablesOf}
 use Rattle.table_join.specs.Joins.{Joins}
-use Rattle.xml_steps.specs.Reading.{Read, elements}
+use Rattle.xml_steps.specs.Reading.{elements}
 use Rattle.xml_elements.specs.Elements.{elementsOf}
-use Rattle.judge_findings.specs.declared.Answer.the-variants.{Findings, Refused}
+use Rattle.judge_findings.specs.declared.Answer.the-variants.{Findings}
 use Rattle.judge_document.specs.Drafted.{draftOf}
 use Rattle.judge_check.specs.Check.{checkOf}
-use Rattle.judge_promises.specs.Accepted.{foundIn, Accepted}
-use Rattle.judge_promises.proofs.Demand2.{accepted-check, in-order}
+use Rattle.judge_check.specs.Accepted.{foundIn, Accepted}
+use Rattle.judge_both.specs.Both.{asAnswer, merging, bothOf}
+use Rattle.judge_check.proofs.Accepted.{accepted-check}
+use Rattle.judge_promises.proofs.Demand2.{in-order}
 use Rattle.judge_promises.proofs.Joined.{never-bad, never-faulty, findings-joined}
 
 -- the records of an accepted check are the front of its list
@@ -77,3 +76,11 @@ module _ (s c a b : List ℕ) (j : Joins c a b) (scratch table first scratch′ 
       let h : length (foundIn s (x .rows) c) ≤ length out / width = omega (arith, ap length found, z .room) in
       merge-alike out (front s a first n (checkOf s a scratch table first .list) x) (front s b second m (checkOf s b scratch′ table′ second .list) y ∙ ap (λ r. flat (foundIn s r b)) p)
       ∙ (merge-is s (x .count) (x .rows) (x .read) c a b j out h ∙ sym (merging-is k (checkOf s c scratch″ table″ out .list) (foundIn s (x .rows) c) out (z .many ∙ ap length found) (z .holds ∙ ap (λ r. filled r out) found)))
+
+-- ---- in code: what the two checks and the merge answer and write is what the check under the joined file answers and writes
+pub demand-3-met : (s c a b : List ℕ) → Joins c a b → (scratch table first second out scratch′ table′ : List ℕ) (n m k : ℕ) → checkOf s a scratch table first .answer ≡ Findings n → checkOf s b (checkOf s a scratch table first .scratch) (checkOf s a scratch table first .table) second .answer ≡ Findings m → checkOf s c scratch′ table′ out .answer ≡ Findings k → (bothOf s a b scratch table first second out .answer ≡ checkOf s c scratch′ table′ out .answer) × (bothOf s a b scratch table first second out .out ≡ checkOf s c scratch′ table′ out .list)
+unfolding bothOf merging
+demand-3-met s c a b j scratch table first second out scratch′ table′ n m k e f g =
+    let x = checkOf s a scratch table first in
+    let d = demand-3 s c a b j scratch table first (x .scratch) (x .table) second scratch′ table′ out n m k e f g in
+    rw (e, f) (ap (λ o. asAnswer (o .answer)) d ∙ sym g, ap (λ o. o .list) d)

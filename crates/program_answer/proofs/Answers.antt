@@ -6,6 +6,7 @@ use Prim.Native.Nat.{ℕ, _<_, _≤_}
 use native.Mathlib.Omega.{arith}
 use borrow.Author.Tests.{lt-ltb, le-ltb}
 use lib.ListN.{length, replicate}
+use Rattle.xml_reader.specs.Limits.{scratchLimit}
 use Rattle.judge_findings.specs.declared.Answer.{Answer}
 use Rattle.judge_findings.specs.declared.Answer.the-variants.{Findings, Refused}
 use Rattle.judge_check.specs.Check.{Outcome, checkOf}
@@ -23,7 +24,7 @@ module _ (document file table list : List ℕ) where
     unfolding smallOf
     over-tables g = rw (le-ltb limit (length document) h, lt-ltb limit (length file) g) (record { answers = refl; tables = refl; lists = refl })
 
-    pub checked : length file ≤ limit → (r : Answer) (s t l : List ℕ) → J.CheckLeft (checkOf document file (replicate 4096 0) table list) r s t l → AnswerLeft (smallOf document file table list) r t l
+    pub checked : length file ≤ limit → (r : Answer) (s t l : List ℕ) → J.CheckLeft (checkOf document file (replicate scratchLimit 0) table list) r s t l → AnswerLeft (smallOf document file table list) r t l
     unfolding smallOf
     checked g r s t l x = rw (le-ltb limit (length document) h, le-ltb limit (length file) g) (record { answers = x .answers; tables = x .tables; lists = x .lists })
 
