@@ -1,18 +1,20 @@
 #!/usr/bin/env bash
-# What the gate's time was spent on: from the output of `.ci/run`, seconds of one core for each crate's proof, its must-fail edits
-# and its run, the dearest first, and the sums.
+# What the gate's time was spent on: from the output of `.ci/run`, the seconds of each crate's proof, of its must-fail edits
+# and of its run, the dearest first, and the sums.
 #
-#   tools/times.sh LOG
+#   tools/times.sh LOG [JOBS]
 #
-# Seconds are as the kit prints them, whole, and measured while another job ran beside it: two cores do the sum in about half of it.
+# Seconds are as the kit prints them, whole, by the clock, while others ran beside: JOBS at a time (4, as `.ci/run` has them). On two cores a
+# check takes half as many seconds alone as one of four does; the gate takes at least the sum divided by JOBS, and more where a group waits for its slowest.
 set -u
 
-if [ $# -ne 1 ] || [ ! -r "$1" ] || [ -d "$1" ]; then
-    echo 'usage: tools/times.sh LOG' >&2
+jobs=${2:-4}
+if [ $# -lt 1 ] || [ $# -gt 2 ] || [ ! -r "$1" ] || [ -d "$1" ] || [[ ! $jobs =~ ^[1-9]$ ]]; then
+    echo 'usage: tools/times.sh LOG [JOBS]' >&2
     exit 2
 fi
 
-awk '
+awk -v jobs="$jobs" '
     # the seconds at the end of a line, as in "(first at src/lib.rt:1:1; 12 s)"
     function seconds(line) {
         sub(/ s\)[^)]*$/, "", line)
@@ -66,7 +68,7 @@ awk '
             r += running[name]
         }
         line("all", p, n, e, r)
-        printf "%d s of one core: %d.%d minutes on two\n", p + e + r, (p + e + r) / 120, int((p + e + r) / 12) % 10
+        printf "%d s, %d at a time: %.1f minutes or more\n", p + e + r, jobs, (p + e + r) / jobs / 60
     }
     function whole(name) { return proving[name] + editing[name] + running[name] }
     function line(name, p, n, e, r) { printf "%-24s %7d %7d %7d %7d\n", name, p, n, e, r }

@@ -9,8 +9,9 @@ use judge_below::how_many;
 use judge_below::is_only_kid;
 use judge_below::none;
 use judge_below::only_kid;
+use judge_draft::Form;
 use judge_draft::attribute_begins;
-use judge_draft::attribute_is_telephone;
+use judge_draft::attribute_has;
 use judge_draft::is_role;
 use judge_draft::parent;
 use judge_draft::role_at;
@@ -103,7 +104,7 @@ pub fn breaks_29(document: &[u8], notes: &[u32], n: usize) -> bool
     if !attribute_begins(document, notes, n, b"value", b"tel:") {
         return false;
     }
-    !attribute_is_telephone(document, notes, n, b"value")
+    !attribute_has(document, notes, n, b"value", Form::Telephone)
 }
 
 // Whether element n has one contactPerson, and that one name with a text.

@@ -12,6 +12,10 @@ use Rattle.text_scan.specs.Lists.{pairs}
 use Rattle.text_facts.specs.Strings.{equal, beginsWith}
 use Rattle.xml_values.specs.Attributes.{attributeOf}
 use Rattle.xml_texts.specs.Texts.{textOf}
+use Rattle.text_numbers.specs.Numbers.{versionOf}
+use Rattle.judge_draft.specs.declared.Form.{Form}
+use Rattle.judge_draft.specs.declared.Form.the-variants.{Version}
+use Rattle.judge_draft.specs.Forms.{hasForm}
 use Rattle.judge_draft.specs.Drafts.{draft, role, parent, first, after, is, isKnown, attribute, said, isEmpty}
 
 -- ---- past the end of the notes
@@ -96,3 +100,15 @@ module _ (s notes : List ℕ) (n f : ℕ) (e : f ≡ first (draft s notes) n) (v
 
   pub text-equals : v ≡ textOf s f → (r : Bool) → r ≡ equal v w → r ≡ equal (said (draft s notes) n) w
   text-equals = text-tested (λ x. equal x w) s notes n f e v
+
+-- ---- a form that was asked of a value
+pub formed : (k form : Form) (v : List ℕ) → form ≡ k → (r : Bool) → r ≡ hasForm k v → r ≡ hasForm form v
+formed k form v e r g = g ∙ rw e
+
+module _ (form : Form) (v : List ℕ) where
+  pub version-formed : form ≡ Version → (n : ℕ) → n ≡ versionOf v → ltb 0 n ≡ hasForm form v
+  version-formed e n g = rw (e, g)
+
+  -- and of what was read
+  pub attribute-formed : (s notes : List ℕ) (n f : ℕ) → f ≡ first (draft s notes) n → (name : List ℕ) → v ≡ attributeOf s f name → (r : Bool) → r ≡ hasForm form v → r ≡ hasForm form (attribute (draft s notes) n name)
+  attribute-formed s notes n f e = attribute-tested (hasForm form) s notes n f e v

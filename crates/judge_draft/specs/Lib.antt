@@ -1,2 +1,3 @@
+pub mod Forms
 pub mod Drafts
 pub mod Demands

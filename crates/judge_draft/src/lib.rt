@@ -4,10 +4,8 @@
 ghost use mathlib.Core.Path.{_≡_};
 ghost use Prim.Native.Nat.{_+_, _*_, _^_, _<_};
 ghost use lib.ListN.{getD};
-ghost use Rattle.text_facts.specs.Strings.{equal, beginsWith, withoutSpace, isGuid, isLabelerCode};
-ghost use Rattle.text_numbers.specs.Numbers.{versionOf};
-ghost use Rattle.text_numbers.specs.Days.{isDay};
-ghost use Rattle.text_telephones.specs.Telephones.{isTelephone};
+ghost use Rattle.text_facts.specs.Strings.{equal, beginsWith};
+ghost use Rattle.judge_draft.specs.Forms.{hasForm};
 ghost use Rattle.judge_draft.specs.Drafts.{draft, role, parent, first, after, is, isKnown, attribute, said, isEmpty};
 use judge_paths::DocumentType;
 use xml_reader::Reader;
@@ -24,6 +22,16 @@ pub enum Demand {
     NoVersion(usize, usize),
     NoKeyElsewhere(DocumentType, usize, usize),
     NoOtherKey(usize, usize),
+}
+
+// The forms that a procedure asks of a value.
+pub enum Form {
+    Guid,
+    Day,
+    Version,
+    LabelerCode,
+    Telephone,
+    WithoutSpace,
 }
 
 // The number at place k of element n's notes, or 0 past their end.
@@ -111,75 +119,32 @@ pub fn attribute_is_empty(document: &[u8], notes: &[u32], n: usize, name: &[u8])
     xml_compare::attribute_is(document, first, name, b"")
 }
 
-pub fn attribute_without_space(document: &[u8], notes: &[u32], n: usize, name: &[u8]) -> bool
-    ensures { λ r. ⌜ r ≡ withoutSpace (attribute (draft (now (document .entry)) (now (notes .entry))) n (now (name .entry))) ⌝ }
+// Whether a value has this form.
+fn has_form(value: &[u8], form: Form) -> bool
+    ensures { λ r. ⌜ r ≡ hasForm form (now (value .entry)) ⌝ }
 {
-    let first = first_byte(document, notes, n);
-    let Place::At(a, e) = xml_values::plain_attribute(document, first, name) else {
-        let mut room = [0u8; Reader::VALUE];
-        return text_facts::without_space(xml_values::attribute(document, first, name, &mut room));
-    };
-    text_facts::without_space(&document[a..e])
+    match form {
+        Form::Guid => text_facts::is_guid(value),
+        Form::Day => text_numbers::is_day(value),
+        Form::Version => 0 < text_numbers::version(value),
+        Form::LabelerCode => text_facts::is_labeler_code(value),
+        Form::Telephone => text_telephones::is_telephone(value),
+        Form::WithoutSpace => text_facts::without_space(value),
+    }
 }
 
-pub fn attribute_is_guid(document: &[u8], notes: &[u32], n: usize, name: &[u8]) -> bool
-    ensures { λ r. ⌜ r ≡ isGuid (attribute (draft (now (document .entry)) (now (notes .entry))) n (now (name .entry))) ⌝ }
+pub fn attribute_has(document: &[u8], notes: &[u32], n: usize, name: &[u8], form: Form) -> bool
+    ensures { λ r. ⌜ r ≡ hasForm form (attribute (draft (now (document .entry)) (now (notes .entry))) n (now (name .entry))) ⌝ }
 {
     let first = first_byte(document, notes, n);
     let Place::At(a, e) = xml_values::plain_attribute(document, first, name) else {
         let mut room = [0u8; Reader::VALUE];
-        return text_facts::is_guid(xml_values::attribute(document, first, name, &mut room));
+        return has_form(
+            xml_values::attribute(document, first, name, &mut room),
+            form,
+        );
     };
-    text_facts::is_guid(&document[a..e])
-}
-
-pub fn attribute_is_day(document: &[u8], notes: &[u32], n: usize, name: &[u8]) -> bool
-    ensures { λ r. ⌜ r ≡ isDay (attribute (draft (now (document .entry)) (now (notes .entry))) n (now (name .entry))) ⌝ }
-{
-    let first = first_byte(document, notes, n);
-    let Place::At(a, e) = xml_values::plain_attribute(document, first, name) else {
-        let mut room = [0u8; Reader::VALUE];
-        return text_numbers::is_day(xml_values::attribute(document, first, name, &mut room));
-    };
-    text_numbers::is_day(&document[a..e])
-}
-
-pub fn attribute_version(document: &[u8], notes: &[u32], n: usize, name: &[u8]) -> u32
-    ensures { λ r. ⌜ r ≡ versionOf (attribute (draft (now (document .entry)) (now (notes .entry))) n (now (name .entry))) ⌝ }
-{
-    let first = first_byte(document, notes, n);
-    let Place::At(a, e) = xml_values::plain_attribute(document, first, name) else {
-        let mut room = [0u8; Reader::VALUE];
-        return text_numbers::version(xml_values::attribute(document, first, name, &mut room));
-    };
-    text_numbers::version(&document[a..e])
-}
-
-pub fn attribute_is_labeler_code(document: &[u8], notes: &[u32], n: usize, name: &[u8]) -> bool
-    ensures { λ r. ⌜ r ≡ isLabelerCode (attribute (draft (now (document .entry)) (now (notes .entry))) n (now (name .entry))) ⌝ }
-{
-    let first = first_byte(document, notes, n);
-    let Place::At(a, e) = xml_values::plain_attribute(document, first, name) else {
-        let mut room = [0u8; Reader::VALUE];
-        return text_facts::is_labeler_code(xml_values::attribute(document, first, name, &mut room));
-    };
-    text_facts::is_labeler_code(&document[a..e])
-}
-
-pub fn attribute_is_telephone(document: &[u8], notes: &[u32], n: usize, name: &[u8]) -> bool
-    ensures { λ r. ⌜ r ≡ isTelephone (attribute (draft (now (document .entry)) (now (notes .entry))) n (now (name .entry))) ⌝ }
-{
-    let first = first_byte(document, notes, n);
-    let Place::At(a, e) = xml_values::plain_attribute(document, first, name) else {
-        let mut room = [0u8; Reader::VALUE];
-        return text_telephones::is_telephone(xml_values::attribute(
-            document,
-            first,
-            name,
-            &mut room,
-        ));
-    };
-    text_telephones::is_telephone(&document[a..e])
+    has_form(&document[a..e], form)
 }
 
 pub fn text_is(document: &[u8], notes: &[u32], n: usize, wanted: &[u8]) -> bool

@@ -77,9 +77,9 @@ module _ (d : Draft) where
     unfolding has dayValue
     day-is e r f = f ∙ rw e
 
-    pub version-is : p ≡ Version → (n : ℕ) → n ≡ versionOf (attribute d k (text "value")) → ltb 0 n ≡ has d p k
+    pub version-is : p ≡ Version → (r : Bool) → r ≡ ltb 0 (versionOf (attribute d k (text "value"))) → r ≡ has d p k
     unfolding has versionValue
-    version-is e n f = rw (e, f)
+    version-is e r f = f ∙ rw e
 
   module _ (p : Property) (x : Found) where
     pub has-no-one : x ≡ Nothing → false ≡ oneHas x (has d p)

@@ -4,10 +4,9 @@ ghost use Rattle.judge_draft.specs.Drafts.{draft};
 ghost use Rattle.judge_below.specs.Chosen.{one, oneHas, the};
 ghost use Rattle.judge_header.specs.Header.{headerOf, idHolds, setHolds, codeIs, typedCode, hasType, typeOf, versionHolds, has};
 use judge_below::only_kid;
+use judge_draft::Form;
+use judge_draft::attribute_has;
 use judge_draft::attribute_is;
-use judge_draft::attribute_is_day;
-use judge_draft::attribute_is_guid;
-use judge_draft::attribute_version;
 use judge_paths::DocumentType;
 use judge_paths::role;
 use text_scan::Found;
@@ -93,10 +92,10 @@ pub fn has(document: &[u8], notes: &[u32], property: Property, k: usize) -> bool
     ensures { λ r. ⌜ r ≡ has (draft (now (document .entry)) (now (notes .entry))) property k ⌝ }
 {
     match property {
-        Property::GuidRoot => attribute_is_guid(document, notes, k, b"root"),
+        Property::GuidRoot => attribute_has(document, notes, k, b"root", Form::Guid),
         Property::OfType => typed_code(document, notes, k),
-        Property::Day => attribute_is_day(document, notes, k, b"value"),
-        Property::Version => 0 < attribute_version(document, notes, k, b"value"),
+        Property::Day => attribute_has(document, notes, k, b"value", Form::Day),
+        Property::Version => attribute_has(document, notes, k, b"value", Form::Version),
     }
 }
 

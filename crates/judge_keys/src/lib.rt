@@ -15,8 +15,9 @@ use judge_below::Wanted;
 use judge_below::is_only;
 use judge_below::only;
 use judge_draft::Demand;
+use judge_draft::Form;
+use judge_draft::attribute_has;
 use judge_draft::attribute_is;
-use judge_draft::attribute_is_labeler_code;
 use judge_draft::is_role;
 use judge_draft::parent;
 use judge_header::Header;
@@ -119,7 +120,7 @@ pub fn breaks_20(document: &[u8], notes: &[u32], n: usize) -> bool
     ensures { λ r. ⌜ r ≡ breaks20 (draft (now (document .entry)) (now (notes .entry))) n ⌝ }
 {
     if is_labeler_id(document, notes, n) {
-        return !attribute_is_labeler_code(document, notes, n, b"extension");
+        return !attribute_has(document, notes, n, b"extension", Form::LabelerCode);
     }
     false
 }

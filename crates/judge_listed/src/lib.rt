@@ -4,8 +4,9 @@ ghost use Rattle.xml_values.specs.Attributes.{hasOther};
 ghost use Rattle.judge_paths.specs.Attributes.{attributeTable, listedNames};
 ghost use Rattle.judge_draft.specs.Drafts.{draft};
 ghost use Rattle.judge_listed.specs.Listed.{isNamedDocument, hasSchema, isDeclared, rootIsRight, breaks1, breaks2, breaks3, hasSpace, breaks4};
+use judge_draft::Form;
+use judge_draft::attribute_has;
 use judge_draft::attribute_is;
-use judge_draft::attribute_without_space;
 use judge_draft::first_byte;
 use judge_draft::is_known;
 use judge_draft::is_role;
@@ -144,8 +145,8 @@ pub fn breaks_3(document: &[u8], notes: &[u32], n: usize) -> bool
 fn has_space(document: &[u8], notes: &[u32], n: usize) -> bool
     ensures { λ r. ⌜ r ≡ hasSpace (draft (now (document .entry)) (now (notes .entry))) n ⌝ }
 {
-    if attribute_without_space(document, notes, n, b"code") {
-        return !attribute_without_space(document, notes, n, b"extension");
+    if attribute_has(document, notes, n, b"code", Form::WithoutSpace) {
+        return !attribute_has(document, notes, n, b"extension", Form::WithoutSpace);
     }
     true
 }

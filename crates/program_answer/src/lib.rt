@@ -9,6 +9,13 @@ use xml_reader::Reader;
 // The most bytes of a document, and of tables.
 pub const LIMIT: usize = 65536;
 
+// The rooms of the small program: elements, findings, and bytes for the text of as many.
+pub const ELEMENTS: usize = 1024;
+
+pub const FINDINGS: usize = 1024;
+
+pub const TEXT: usize = 65536;
+
 // What a reading came to: so many bytes, or a fault that errno tells.
 pub enum Got {
     Bytes(usize),

@@ -3,7 +3,9 @@ ghost use Prim.Native.Nat.{_+_, _*_, _≤_};
 ghost use lib.ListN.{length};
 use judge_findings::Answer;
 use libc::STDOUT_FILENO;
+use list_findings::WIDTH;
 use program_answer::Got;
+use xml_reader::Reader;
 
 // Prints a list of so many findings.
 fn print_list(list: &[u32], n: usize, out: &mut [u8])
@@ -29,13 +31,13 @@ fn print(answer: Answer, list: &[u32], out: &mut [u8])
     }
 }
 
-// Checks under both files and merges, with room for 1,024 elements and 256 findings in each list.
+// Checks under both files and merges, with room for 256 findings in each list.
 fn judge_both(document: &[u8], one: &[u8], other: &[u8]) {
-    let mut scratch = [0u8; 4096];
-    let mut elements = [0u32; 4096];
-    let mut first = [0u32; 768];
-    let mut second = [0u32; 768];
-    let mut list = [0u32; 768];
+    let mut scratch = [0u8; Reader::SCRATCH];
+    let mut elements = [0u32; 4 * program_answer::ELEMENTS];
+    let mut first = [0u32; WIDTH * 256];
+    let mut second = [0u32; WIDTH * 256];
+    let mut list = [0u32; WIDTH * 256];
     let mut out = [0u8; 16384];
     let answer = judge_both::check_both(
         document,

@@ -3,6 +3,7 @@ ghost use Prim.Native.Nat.{_+_, _*_, _≤_};
 ghost use lib.ListN.{length};
 use libc::STDIN_FILENO;
 use libc::STDOUT_FILENO;
+use list_findings::WIDTH;
 use program_answer::Got;
 
 fn print(document: &[u8], tables: &[u8], elements: &mut [u32], list: &mut [u32], out: &mut [u8])
@@ -15,11 +16,11 @@ fn print(document: &[u8], tables: &[u8], elements: &mut [u32], list: &mut [u32],
     os::fail(b"panel: cannot write the answer");
 }
 
-// Checks with room for 1,024 elements and 1,024 findings, whose text fits into 65,536 bytes.
+// Checks in the rooms of the small program.
 fn judge(document: &[u8], tables: &[u8]) {
-    let mut elements = [0u32; 4096];
-    let mut list = [0u32; 3072];
-    let mut out = [0u8; 65536];
+    let mut elements = [0u32; 4 * program_answer::ELEMENTS];
+    let mut list = [0u32; WIDTH * program_answer::FINDINGS];
+    let mut out = [0u8; program_answer::TEXT];
     print(document, tables, &mut elements, &mut list, &mut out);
 }
 
@@ -34,7 +35,7 @@ fn read_document(tables: &[u8], room: &mut [u8]) {
 
 // One byte more than the limit is read, so that a longer document is seen.
 fn with_tables(tables: &[u8]) {
-    let mut room = [0u8; 65537];
+    let mut room = [0u8; program_answer::LIMIT + 1];
     read_document(tables, &mut room);
 }
 
@@ -54,6 +55,6 @@ fn read_tables(room: &mut [u8]) {
 }
 
 fn main() {
-    let mut room = [0u8; 65537];
+    let mut room = [0u8; program_answer::LIMIT + 1];
     read_tables(&mut room);
 }

@@ -1,5 +1,6 @@
 // Shows values of elements: each line has the element, the name that was asked for, how the value is shown, and its bytes.
 use libc::STDOUT_FILENO;
+use xml_reader::Reader;
 use xml_values::View;
 
 fn put(bytes: &[u8]) {
@@ -31,7 +32,7 @@ fn show_range(document: &[u8], first: usize, after: usize, name: &[u8]) {
     put(b" [");
     put(name);
     put(b"] ");
-    let mut scratch = [0u8; 4096];
+    let mut scratch = [0u8; Reader::SCRATCH];
     put_view(xml_value_reader::fill(document, &mut scratch, first, after, name));
     put(b" [");
     put(xml_value_reader::value(document, &mut scratch, first, after, name));

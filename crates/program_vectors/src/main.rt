@@ -7,6 +7,7 @@ ghost use lib.ListN.{length};
 ghost use Rattle.io.specs.Counts.{Counts};
 ghost use Rattle.program_answer.specs.Small.{Within};
 use libc::STDOUT_FILENO;
+use list_findings::WIDTH;
 use program_answer::Got;
 
 fn say(text: &[u8]) {
@@ -154,9 +155,9 @@ fn hold_answer(
 
 // The rooms are those of the small program.
 fn hold_pair(name: &[u8], document: &[u8], tables: &[u8], rows: bool, expected: &[u8]) -> bool {
-    let mut elements = [0u32; 4096];
-    let mut list = [0u32; 3072];
-    let mut out = [0u8; 65536];
+    let mut elements = [0u32; 4 * program_answer::ELEMENTS];
+    let mut list = [0u32; WIDTH * program_answer::FINDINGS];
+    let mut out = [0u8; program_answer::TEXT];
     hold_answer(
         name,
         document,
@@ -224,8 +225,8 @@ fn hold_files(
 
 // One byte more than the limit is read, so that a longer file is seen.
 fn hold(name: &[u8], rows: bool, expected: &[u8]) -> bool {
-    let mut document = [0u8; 65537];
-    let mut tables = [0u8; 65537];
+    let mut document = [0u8; program_answer::LIMIT + 1];
+    let mut tables = [0u8; program_answer::LIMIT + 1];
     hold_files(name, rows, expected, &mut document, &mut tables)
 }
 

@@ -24,11 +24,11 @@ attribute-begins-requires c κs = search needs
 returns-2 : tie.Need-returns-2
 returns-2 c = search (mail-29, not-true, not-false)
 
-slice-aggregate-attribute-is-telephone : tie.Need-slice-aggregate-attribute-is-telephone
-slice-aggregate-attribute-is-telephone c = search needs
+slice-aggregate-attribute-has : tie.Need-slice-aggregate-attribute-has
+slice-aggregate-attribute-has c = search needs
 
-attribute-is-telephone-requires : tie.Need-attribute-is-telephone-requires
-attribute-is-telephone-requires c κs = search needs
+attribute-has-requires : tie.Need-attribute-has-requires
+attribute-has-requires c κs = search needs
 
 returns-3 : tie.Need-returns-3
 returns-3 c = search (value-29, not-false)
@@ -43,6 +43,6 @@ breaks-29-spec =
     slice-aggregate-attribute-begins-2
     attribute-begins-requires
     returns-2
-    slice-aggregate-attribute-is-telephone
-    attribute-is-telephone-requires
+    slice-aggregate-attribute-has
+    attribute-has-requires
     returns-3)

@@ -8,11 +8,11 @@ use Rattle.judge_header.proofs.has.Tie as tie
 enum-told : tie.Need-enum-told
 enum-told c = search needs
 
-slice-aggregate-attribute-is-guid : tie.Need-slice-aggregate-attribute-is-guid
-slice-aggregate-attribute-is-guid c = search needs
+slice-aggregate-attribute-has : tie.Need-slice-aggregate-attribute-has
+slice-aggregate-attribute-has c = search needs
 
-attribute-is-guid-requires : tie.Need-attribute-is-guid-requires
-attribute-is-guid-requires c κs = search needs
+attribute-has-requires : tie.Need-attribute-has-requires
+attribute-has-requires c κs = search needs
 
 enum-told-2 : tie.Need-enum-told-2
 enum-told-2 c = search needs
@@ -23,20 +23,20 @@ typed-code-requires c κs = search needs
 enum-told-3 : tie.Need-enum-told-3
 enum-told-3 c = search needs
 
-slice-aggregate-attribute-is-day : tie.Need-slice-aggregate-attribute-is-day
-slice-aggregate-attribute-is-day c = search needs
+slice-aggregate-attribute-has-2 : tie.Need-slice-aggregate-attribute-has-2
+slice-aggregate-attribute-has-2 c = search needs
 
-attribute-is-day-requires : tie.Need-attribute-is-day-requires
-attribute-is-day-requires c κs = search needs
+attribute-has-requires-2 : tie.Need-attribute-has-requires-2
+attribute-has-requires-2 c κs = search needs
 
 enum-told-4 : tie.Need-enum-told-4
 enum-told-4 c = search needs
 
-slice-aggregate-attribute-version : tie.Need-slice-aggregate-attribute-version
-slice-aggregate-attribute-version c = search needs
+slice-aggregate-attribute-has-3 : tie.Need-slice-aggregate-attribute-has-3
+slice-aggregate-attribute-has-3 c = search needs
 
-attribute-version-requires : tie.Need-attribute-version-requires
-attribute-version-requires c κs = search needs
+attribute-has-requires-3 : tie.Need-attribute-has-requires-3
+attribute-has-requires-3 c κs = search needs
 
 returns : tie.Need-returns
 returns c = search guid-is
@@ -55,16 +55,16 @@ has-spec =
     tie.close
     (tie.spec
     enum-told
-    slice-aggregate-attribute-is-guid
-    attribute-is-guid-requires
+    slice-aggregate-attribute-has
+    attribute-has-requires
     enum-told-2
     typed-code-requires
     enum-told-3
-    slice-aggregate-attribute-is-day
-    attribute-is-day-requires
+    slice-aggregate-attribute-has-2
+    attribute-has-requires-2
     enum-told-4
-    slice-aggregate-attribute-version
-    attribute-version-requires
+    slice-aggregate-attribute-has-3
+    attribute-has-requires-3
     returns
     returns-2
     returns-3

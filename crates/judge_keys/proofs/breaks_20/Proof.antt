@@ -8,11 +8,11 @@ use Rattle.judge_keys.proofs.breaks_20.Tie as tie
 is-labeler-id-requires : tie.Need-is-labeler-id-requires
 is-labeler-id-requires c κs = search needs
 
-slice-aggregate-attribute-is-labeler-code : tie.Need-slice-aggregate-attribute-is-labeler-code
-slice-aggregate-attribute-is-labeler-code c = search needs
+slice-aggregate-attribute-has : tie.Need-slice-aggregate-attribute-has
+slice-aggregate-attribute-has c = search needs
 
-attribute-is-labeler-code-requires : tie.Need-attribute-is-labeler-code-requires
-attribute-is-labeler-code-requires c κs = search needs
+attribute-has-requires : tie.Need-attribute-has-requires
+attribute-has-requires c κs = search needs
 
 returns : tie.Need-returns
 returns c = search wrong-code
@@ -25,7 +25,7 @@ breaks-20-spec =
     tie.close
     (tie.spec
     is-labeler-id-requires
-    slice-aggregate-attribute-is-labeler-code
-    attribute-is-labeler-code-requires
+    slice-aggregate-attribute-has
+    attribute-has-requires
     returns
     returns-2)

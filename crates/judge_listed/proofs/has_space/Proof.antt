@@ -5,17 +5,17 @@ use borrow.Author.Needs.{needs}
 use Rattle.judge_listed.proofs.has_space.Statement.{statement}
 use Rattle.judge_listed.proofs.has_space.Tie as tie
 
-slice-aggregate-attribute-without-space : tie.Need-slice-aggregate-attribute-without-space
-slice-aggregate-attribute-without-space c = search needs
+slice-aggregate-attribute-has : tie.Need-slice-aggregate-attribute-has
+slice-aggregate-attribute-has c = search needs
 
-attribute-without-space-requires : tie.Need-attribute-without-space-requires
-attribute-without-space-requires c κs = search needs
+attribute-has-requires : tie.Need-attribute-has-requires
+attribute-has-requires c κs = search needs
 
-slice-aggregate-attribute-without-space-2 : tie.Need-slice-aggregate-attribute-without-space-2
-slice-aggregate-attribute-without-space-2 c = search needs
+slice-aggregate-attribute-has-2 : tie.Need-slice-aggregate-attribute-has-2
+slice-aggregate-attribute-has-2 c = search needs
 
-attribute-without-space-requires-2 : tie.Need-attribute-without-space-requires-2
-attribute-without-space-requires-2 c κs = search needs
+attribute-has-requires-2 : tie.Need-attribute-has-requires-2
+attribute-has-requires-2 c κs = search needs
 
 returns : tie.Need-returns
 returns c = search space-extension
@@ -27,9 +27,9 @@ pub has-space-spec : {M : Type 1} → statement M
 has-space-spec =
     tie.close
     (tie.spec
-    slice-aggregate-attribute-without-space
-    attribute-without-space-requires
-    slice-aggregate-attribute-without-space-2
-    attribute-without-space-requires-2
+    slice-aggregate-attribute-has
+    attribute-has-requires
+    slice-aggregate-attribute-has-2
+    attribute-has-requires-2
     returns
     returns-2)
