@@ -50,43 +50,51 @@ module _ (b : ℕ → ℕ → Bool) (n : ℕ) (none : b n 0 ≡ false) where
   padded-by (suc k) [] h = zeros-by (suc k)
   padded-by (suc k) (p ∷ ps) h = rw (padded-by k ps (omega arith))
 
-module _ (d : Draft) (h : Header) (t : Tables) (n r : ℕ) where
+module _ (d : Draft) (h : Header) (t : Tables) (n : ℕ) (row : List ℕ) where
   -- the digits of the procedures from place i on
   pub record Marking (i m : ℕ) : Type 0 where
-    pub digits : m ≡ markBy (broken d h t) n (drop i (askedRow r))
+    pub digits : m ≡ markBy (broken d h t) n (drop i row)
     pub few : i ≤ most
+    pub its : row ≡ askedRow (role d n)
 
   no-zero : broken d h t n 0 ≡ false
   unfolding broken isBroken demandOf demandIn numbered
   no-zero = refl
 
-  long : length (askedRow r) ≡ most
-  long = padded-length most (askedAt r)
+  long : row ≡ askedRow (role d n) → length row ≡ most
+  long e = ap length e ∙ padded-length most (askedAt (role d n))
 
-  pub marking-start : Marking most 0
+  pub marking-start : (r : ℕ) → r ≡ role d n → row ≡ askedRow r → Marking most 0
   unfolding markBy
-  marking-start = record { digits = rw (drop-of-length-le (askedRow r) {i = most} (omega (arith, long))); few = omega arith }
+  marking-start r e f =
+      let g : row ≡ askedRow (role d n) = f ∙ rw e in
+      record { digits = rw (drop-of-length-le row {i = most} (omega (arith, long g))); few = omega arith; its = g }
 
   module _ (i m : ℕ) (l : Marking i m) where
-    pub marking-over : i ≤ 0 → r ≡ role d n → m ≡ markOf d (broken d h t) n
+    pub marking-over : i ≤ 0 → m ≡ markOf d (broken d h t) n
     unfolding markOf
-    marking-over g e =
+    marking-over g =
         let z : i ≡ 0 = omega arith in
-        l .digits ∙ (rw z (padded-by (broken d h t) n no-zero most (askedAt r) (asked-few r)) ∙ ap (λ q. markBy (broken d h t) n (askedAt q)) e)
+        l .digits ∙ rw (z, l .its) (padded-by (broken d h t) n no-zero most (askedAt (role d n)) (asked-few (role d n)))
 
-    module _ (g : 0 < i) (p : ℕ) (e : p ≡ getD (askedRow r) (i - 1) 0) where
-      here : drop (i - 1) (askedRow r) ≡ p ∷ drop i (askedRow r)
+    module _ (g : 0 < i) where
+      pub marking-inside : i - 1 < most
+      marking-inside = omega (arith, l .few)
+
+      here : drop (i - 1) row ≡ getD row (i - 1) 0 ∷ drop i row
       here =
           let k : i - 1 + 1 ≡ i = omega arith in
-          drop-here (askedRow r) (i - 1) (omega (arith, long, l .few)) ∙ rw (k, e)
+          drop-here row (i - 1) (omega (arith, long (l .its), l .few)) ∙ rw k
 
-      pub marking-skip : (x : Bool) → x ≡ eqb p 0 and eqb m 0 → x ≡ true → Marking (i - 1) m
+      pub marking-skip : (x : Bool) → x ≡ eqb (getD row (i - 1) 0) 0 and eqb m 0 → x ≡ true → Marking (i - 1) m
       unfolding markBy pushed
       marking-skip x f u =
+          let p = getD row (i - 1) 0 in
           let a : p ≡ 0 = eqb-true p 0 (and-left (eqb p 0) (eqb m 0) (sym f ∙ u)) in
           let b : m ≡ 0 = eqb-true m 0 (and-right (eqb p 0) (eqb m 0) (sym f ∙ u)) in
-          record { digits = b ∙ sym (ap (markBy (broken d h t) n) here ∙ rw (← l .digits, a, b, no-zero)); few = omega (arith, l .few) }
+          record { digits = b ∙ sym (ap (markBy (broken d h t) n) here ∙ rw (← l .digits, a, b, no-zero)); few = omega (arith, l .few); its = l .its }
 
-      pub marking-next : (q : Demand) → q ≡ demandOf d h p n → (y : Bool) → y ≡ isBroken d t q → (m′ : ℕ) → m′ ≡ pushed m y → Marking (i - 1) m′
+      pub marking-next : (q : Demand) → q ≡ demandOf d h (getD row (i - 1) 0) n → (y : Bool) → y ≡ isBroken d t q → (m′ : ℕ) → m′ ≡ pushed m y → Marking (i - 1) m′
       unfolding markBy broken
-      marking-next q f y u m′ v = record { digits = v ∙ sym (ap (markBy (broken d h t) n) here ∙ rw (← l .digits, ← f, ← u)); few = omega (arith, l .few) }
+      marking-next q f y u m′ v =
+          record { digits = v ∙ sym (ap (markBy (broken d h t) n) here ∙ rw (← l .digits, ← f, ← u)); few = omega (arith, l .few); its = l .its }

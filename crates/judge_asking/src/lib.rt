@@ -7,6 +7,7 @@ ghost use lib.Seq.{sets};
 ghost use Rattle.text_scan.specs.Choice.{_and_};
 ghost use Rattle.xml_reader.specs.Limits.{elementsLimit};
 ghost use Rattle.judge_draft.specs.Drafts.{draft};
+ghost use Rattle.judge_listed.specs.Listed.{breaks3};
 ghost use Rattle.judge_registrations.specs.Registrations.{hasEstablishment};
 ghost use Rattle.judge_answers.specs.Answers.{tablesAt};
 ghost use Rattle.judge_answers.specs.Served.{Served};
@@ -16,7 +17,7 @@ use judge_answers::Places;
 use judge_answers::is_broken;
 use judge_header::Header;
 use judge_marks::MOST;
-use judge_marks::asked;
+use judge_marks::asked_row;
 use judge_marks::push;
 use judge_procedures::Met;
 use judge_procedures::demand;
@@ -42,15 +43,15 @@ fn mark(
     met: Met,
     n: usize,
 ) -> u64
-    requires { ⌜ (met .held ≡ hasEstablishment (draft (now document) (now notes)) (met .entity)) × Served (draft (now document) (now notes)) (now tables) places (now index) ⌝ }
+    requires { ⌜ (met .held ≡ hasEstablishment (draft (now document) (now notes)) (met .entity)) × (met .three ≡ breaks3 (draft (now document) (now notes)) n) × Served (draft (now document) (now notes)) (now tables) places (now index) ⌝ }
     ensures { λ r. ⌜ r ≡ markOf (draft (now (document .entry)) (now (notes .entry))) (broken (draft (now (document .entry)) (now (notes .entry))) header (tablesAt (now (tables .entry)) places)) n ⌝ }
 {
-    let role = judge_draft::role_at(document, notes, n);
+    let row = asked_row(judge_draft::role_at(document, notes, n));
     let mut i = MOST;
     let mut m = 0;
     while 0 < i {
         i -= 1;
-        let p = asked(role, i);
+        let p = row[i] as u32;
         if is_behind(p, m) {
             continue;
         }
@@ -82,6 +83,7 @@ pub fn fill(
         let at = judge_registrations::entity_at(document, notes, entity, n);
         held = judge_registrations::held_at(document, notes, entity, held, at);
         entity = at;
+        let three = judge_listed::breaks_3(document, notes, n);
         let m = mark(
             document,
             notes,
@@ -92,6 +94,7 @@ pub fn fill(
             Met {
                 entity: entity,
                 held: held,
+                three: three,
             },
             n,
         );

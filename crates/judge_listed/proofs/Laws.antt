@@ -1,6 +1,6 @@
 -- Procedures 1 to 4: one law for each branch of the code.
 -- Assumes nothing.
-use mathlib.Core.Path.{_≡_, refl, sym, _∙_, ap}
+use mathlib.Core.Path.{_≡_, sym, _∙_, ap}
 use mathlib.Core.Bool.{Bool, true, false}
 use mathlib.Core.List.{List, []}
 use Prim.Native.Nat.{ℕ, _+_, _-_, _≤_}
@@ -9,12 +9,12 @@ use lib.ListN.{length, take, drop, drop-of-length-le}
 use lib.Seq.{take-nil}
 use Rattle.text_scan.specs.Choice.{not}
 use Rattle.text_scan.specs.Bytes.{text}
-use Rattle.text_scan.specs.Lists.{every, pairs}
+use Rattle.text_scan.specs.Lists.{pairs}
 use Rattle.text_scan.proofs.Tests.{and-false}
-use Rattle.text_facts.specs.Strings.{equal, withoutSpace, isOneOf}
+use Rattle.text_facts.specs.Strings.{equal, withoutSpace}
 use Rattle.xml_names.specs.Names.{nameEnd, nameAt}
-use Rattle.xml_values.specs.Attributes.{isBare, hasOther, attributeOf}
-use Rattle.xml_values.proofs.Unlisted.{bare-other, unlisted-says}
+use Rattle.xml_values.specs.Attributes.{isBare, hasOther}
+use Rattle.xml_values.proofs.Unlisted.{bare-other}
 use Rattle.judge_paths.specs.Roles.{Unlisted, Root}
 use Rattle.judge_paths.specs.Attributes.{attributeTable, listedNames}
 use Rattle.judge_draft.specs.Drafts.{Draft, draft, role, first, is, isKnown, attribute}
@@ -76,21 +76,13 @@ module _ (d : Draft) (n : ℕ) where
   unfolding breaks2
   two-is r e = e
 
--- ---- 3 and 4: a bare tag has no attribute
+-- ---- 3: a bare tag has no attribute that is not listed
 module _ (s notes : List ℕ) (n f : ℕ) (e : f ≡ first (draft s notes) n) where
   pub three-bare : (b : Bool) → b ≡ isBare s f → b ≡ true → false ≡ breaks3 (draft s notes) n
   unfolding breaks3 otherThan draft
   three-bare b g h =
       let d : Draft = draft s notes in
       sym (rw (bare-other s (first d n) (listsAt d n) (rw e at (sym g ∙ h))) (and-false (isKnown d n)))
-
-  pub four-bare : (b : Bool) → b ≡ isBare s f → b ≡ true → false ≡ breaks4 (draft s notes) n
-  unfolding breaks4 attribute draft withoutSpace every isOneOf
-  four-bare b g h =
-      let d : Draft = draft s notes in
-      let bare : isBare s (first d n) ≡ true = rw e at (sym g ∙ h) in
-      let none : (name : List ℕ) → attributeOf s (first d n) name ≡ [] = λ name. unlisted-says s [] name refl (first d n) (bare-other s (first d n) [] bare) in
-      sym (rw (none (text "code"), none (text "extension")) (and-false (isKnown d n)))
 
   pub three-known : (a : Bool) → a ≡ isKnown (draft s notes) n → a ≡ true → (q : ℕ) → q ≡ role (draft s notes) n → (r : Bool) → r ≡ hasOther s f (listedNames q attributeTable) → r ≡ breaks3 (draft s notes) n
   unfolding breaks3 otherThan draft
@@ -110,6 +102,10 @@ module _ (d : Draft) (n : ℕ) where
     pub four-known : a ≡ true → (r : Bool) → r ≡ hasSpace d n → r ≡ breaks4 d n
     unfolding breaks4
     four-known f r g = g ∙ rw (← e, f)
+
+    pub three-holds : a ≡ true → (b : Bool) → b ≡ breaks3 d n → b ≡ false → otherThan d n (listsAt d n) ≡ false
+    unfolding breaks3
+    three-holds f b g h = sym (sym h ∙ g ∙ rw (← e, f))
 
   module _ (b : Bool) (g : b ≡ withoutSpace (attribute d n (text "code"))) where
     pub space-extension : b ≡ true → (r : Bool) → r ≡ withoutSpace (attribute d n (text "extension")) → not r ≡ hasSpace d n

@@ -1,9 +1,10 @@
 // Procedures 1 to 4: the root, and the elements and attributes that are known.
 ghost use mathlib.Core.Path.{_≡_};
+ghost use mathlib.Core.Bool.{false};
 ghost use Rattle.xml_values.specs.Attributes.{hasOther};
 ghost use Rattle.judge_paths.specs.Attributes.{attributeTable, listedNames};
 ghost use Rattle.judge_draft.specs.Drafts.{draft};
-ghost use Rattle.judge_listed.specs.Listed.{isNamedDocument, hasSchema, isDeclared, rootIsRight, breaks1, breaks2, breaks3, hasSpace, breaks4};
+ghost use Rattle.judge_listed.specs.Listed.{isNamedDocument, hasSchema, isDeclared, rootIsRight, breaks1, breaks2, otherThan, listsAt, breaks3, hasSpace, breaks4};
 use judge_draft::Form;
 use judge_draft::attribute_has;
 use judge_draft::attribute_is;
@@ -151,16 +152,40 @@ fn has_space(document: &[u8], notes: &[u32], n: usize) -> bool
     true
 }
 
-// Whether 4 is broken at element n. Most tags have no attributes, and are asked no further.
-pub fn breaks_4(document: &[u8], notes: &[u32], n: usize) -> bool
+// The same of an element without an unlisted attribute: it says nothing in a code or an extension that its role does not list.
+fn has_space_listed(document: &[u8], notes: &[u32], n: usize) -> bool
+    requires { ⌜ otherThan (draft (now document) (now notes)) n (listsAt (draft (now document) (now notes)) n) ≡ false ⌝ }
+    ensures { λ r. ⌜ r ≡ hasSpace (draft (now (document .entry)) (now (notes .entry))) n ⌝ }
+{
+    match role_at(document, notes, n) {
+        role::ID | role::ORGANISATION_ID => !attribute_has(
+            document,
+            notes,
+            n,
+            b"extension",
+            Form::WithoutSpace,
+        ),
+        role::CODE | role::OPERATION_CODE => !attribute_has(
+            document,
+            notes,
+            n,
+            b"code",
+            Form::WithoutSpace,
+        ),
+        _ => false,
+    }
+}
+
+// Whether 4 is broken at element n, where it was found out before whether 3 is.
+pub fn breaks_4(document: &[u8], notes: &[u32], three: bool, n: usize) -> bool
+    requires { ⌜ three ≡ breaks3 (draft (now document) (now notes)) n ⌝ }
     ensures { λ r. ⌜ r ≡ breaks4 (draft (now (document .entry)) (now (notes .entry))) n ⌝ }
 {
     if is_known(document, notes, n) {
-        let first = first_byte(document, notes, n);
-        if xml_values::is_bare(document, first) {
-            return false;
+        if three {
+            return has_space(document, notes, n);
         }
-        return has_space(document, notes, n);
+        return has_space_listed(document, notes, n);
     }
     false
 }

@@ -82,15 +82,18 @@ asked-few r = inside roles r there past
     past h = rw (asked-other r h) (omega arith)
 
 -- ---- the code's table has the rows of all roles
-module _ (table : List (List ℕ)) (e : table ≡ mapped askedRow 0 roles) (z : List ℕ) (r i : ℕ) where
-  pub asked-there : r < roles → getD (getD table r z) i 0 ≡ getD (askedRow r) i 0
-  asked-there h =
+module _ (table : List (List ℕ)) (e : table ≡ mapped askedRow 0 roles) (z : List ℕ) (r : ℕ) where
+  pub row-there : r < roles → getD table r z ≡ askedRow r
+  row-there h =
       let k : 0 + r ≡ r = zero-add r in
-      ap (λ t. getD (getD t r z) i 0) e ∙ (ap (λ x. getD x i 0) (mapped-at askedRow z roles 0 r h) ∙ rw k)
+      ap (λ t. getD t r z) e ∙ (mapped-at askedRow z roles 0 r h ∙ rw k)
 
-  pub asked-past : roles ≤ r → getD (getD table 5 z) i 0 ≡ getD (askedRow r) i 0
-  asked-past h =
-      ap (λ t. getD (getD t 5 z) i 0) e ∙ (ap (λ x. getD x i 0) (mapped-at askedRow z roles 0 5 (omega arith)) ∙ rw (asked-other r h, title))
+  pub row-past : roles ≤ r → getD table 5 z ≡ askedRow r
+  row-past h =
+      ap (λ t. getD t 5 z) e ∙ (mapped-at askedRow z roles 0 5 (omega arith) ∙ rw (asked-other r h, title))
+
+pub asked-of : (r i : ℕ) (row : List ℕ) → row ≡ askedRow r → getD row i 0 ≡ getD (askedRow r) i 0
+asked-of r i row e = rw e
 
 pub asked-none : (r i : ℕ) → most ≤ i → 0 ≡ getD (askedRow r) i 0
 asked-none r i h = sym (List·getD-eq-default (askedRow r) 0 (omega (arith, padded-length most (askedAt r))))

@@ -2,15 +2,18 @@
 ghost use mathlib.Core.Path.{_≡_};
 ghost use Rattle.judge_draft.specs.Drafts.{draft};
 ghost use Rattle.judge_draft.specs.Demands.{brokenIf};
+ghost use Rattle.judge_listed.specs.Listed.{breaks3};
 ghost use Rattle.judge_registrations.specs.Registrations.{hasEstablishment};
 ghost use Rattle.judge_procedures.specs.Procedures.{listedProcedures, headerProcedures, organisationProcedures, contactProcedures, registrationProcedures, demandIn, demandOf};
 use judge_draft::Demand;
 use judge_header::Header;
 
-// The entity of level 3 that was met last, and whether it is that of an establishment.
+// What was found out before: the entity of level 3 that was met last, and whether it is that of an establishment; whether 3 is broken at the element
+// that is asked.
 pub struct Met {
     pub entity: usize,
     pub held: bool,
+    pub three: bool,
 }
 
 // Broken where a test says so.
@@ -23,15 +26,23 @@ fn broken_if(broken: bool) -> Demand
     Demand::Nothing
 }
 
-// 1 to 4: what is known.
-fn of_listed(document: &[u8], notes: &[u32], header: Header, p: u32, n: usize) -> Demand
+// 1 to 4: what is known. Whether 3 is broken was found out before.
+fn of_listed(
+    document: &[u8],
+    notes: &[u32],
+    header: Header,
+    three: bool,
+    p: u32,
+    n: usize,
+) -> Demand
+    requires { ⌜ three ≡ breaks3 (draft (now document) (now notes)) n ⌝ }
     ensures { λ r. ⌜ r ≡ demandIn listedProcedures (draft (now (document .entry)) (now (notes .entry))) header p n ⌝ }
 {
     match p {
         1 => broken_if(judge_listed::breaks_1(document, notes, n)),
         2 => broken_if(judge_listed::breaks_2(document, notes, n)),
-        3 => broken_if(judge_listed::breaks_3(document, notes, n)),
-        4 => broken_if(judge_listed::breaks_4(document, notes, n)),
+        3 => broken_if(three),
+        4 => broken_if(judge_listed::breaks_4(document, notes, three, n)),
         _ => Demand::Nothing,
     }
 }
@@ -116,11 +127,11 @@ fn of_registrations(
 
 // What procedure p demands of element n.
 pub fn demand(document: &[u8], notes: &[u32], header: Header, met: Met, p: u32, n: usize) -> Demand
-    requires { ⌜ met .held ≡ hasEstablishment (draft (now document) (now notes)) (met .entity) ⌝ }
+    requires { ⌜ (met .held ≡ hasEstablishment (draft (now document) (now notes)) (met .entity)) × (met .three ≡ breaks3 (draft (now document) (now notes)) n) ⌝ }
     ensures { λ r. ⌜ r ≡ demandOf (draft (now (document .entry)) (now (notes .entry))) header p n ⌝ }
 {
     if p < 5 {
-        return of_listed(document, notes, header, p, n);
+        return of_listed(document, notes, header, met.three, p, n);
     }
     if p < 14 {
         return of_header(document, notes, header, p, n);

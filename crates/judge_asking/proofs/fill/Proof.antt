@@ -31,6 +31,9 @@ entity-at-requires c κs = search needs
 held-at-requires : tie.Need-held-at-requires Inv-loop μ-loop
 held-at-requires c κs = search needs
 
+breaks-3-requires : tie.Need-breaks-3-requires Inv-loop μ-loop
+breaks-3-requires c κs = search needs
+
 mark-requires : tie.Need-mark-requires Inv-loop μ-loop
 mark-requires c κs = search needs
 
@@ -71,6 +74,7 @@ fill-spec =
     loop-holds
     entity-at-requires
     held-at-requires
+    breaks-3-requires
     mark-requires
     mul-marks
     slice-write-marks

@@ -2,20 +2,23 @@
 -- Assumes nothing.
 use Rattle.judge_draft.specs.Drafts.{draft}
 use Rattle.judge_answers.specs.Answers.{tablesAt}
-use Rattle.judge_asking.proofs.Marked.{Marking, marking-start, marking-skip, marking-next, marking-over}
+use Rattle.judge_asking.proofs.Marked.{Marking, marking-start, marking-inside, marking-skip, marking-next, marking-over}
 use borrow.Author.Needs.{needs}
 use Rattle.judge_asking.proofs.mark.Statement.{statement}
 use Rattle.judge_asking.proofs.mark.Tie as tie
 
 abbrev Inv-loop : tie.InvT-loop
-Inv-loop document notes header tables places index met n role i₀ m₀ i m =
-    Marking (draft document notes) header (tablesAt tables places) n role i m
+Inv-loop document notes header tables places index met n row i₀ m₀ i m =
+    Marking (draft document notes) header (tablesAt tables places) n row i m
 
 abbrev μ-loop : tie.MeasureT-loop
-μ-loop document notes header tables places index met n role i₀ m₀ i m = i
+μ-loop document notes header tables places index met n row i₀ m₀ i m = i
 
 role-at-requires : tie.Need-role-at-requires Inv-loop μ-loop
 role-at-requires c κs = search needs
+
+asked-row-requires : tie.Need-asked-row-requires Inv-loop μ-loop
+asked-row-requires c κs = search needs
 
 loop-holds : tie.Need-loop-holds Inv-loop μ-loop
 loop-holds c = search marking-start
@@ -23,8 +26,11 @@ loop-holds c = search marking-start
 sub-i : tie.Need-sub-i Inv-loop μ-loop
 sub-i c = search needs
 
-asked-requires : tie.Need-asked-requires Inv-loop μ-loop
-asked-requires c κs = search needs
+array-read-p : tie.Need-array-read-p Inv-loop μ-loop
+array-read-p c = search marking-inside
+
+cast-p : tie.Need-cast-p Inv-loop μ-loop
+cast-p c = search needs
 
 is-behind-requires : tie.Need-is-behind-requires Inv-loop μ-loop
 is-behind-requires c κs = search needs
@@ -60,9 +66,11 @@ mark-spec =
     Inv-loop
     μ-loop
     role-at-requires
+    asked-row-requires
     loop-holds
     sub-i
-    asked-requires
+    array-read-p
+    cast-p
     is-behind-requires
     loop-less
     loop-again

@@ -20,9 +20,6 @@ breaks-2-requires c κs = search needs
 broken-if-requires-2 : tie.Need-broken-if-requires-2
 broken-if-requires-2 c κs = search needs
 
-breaks-3-requires : tie.Need-breaks-3-requires
-breaks-3-requires c κs = search needs
-
 broken-if-requires-3 : tie.Need-broken-if-requires-3
 broken-if-requires-3 c κs = search needs
 
@@ -59,7 +56,6 @@ of-listed-spec =
     broken-if-requires
     breaks-2-requires
     broken-if-requires-2
-    breaks-3-requires
     broken-if-requires-3
     breaks-4-requires
     broken-if-requires-4
