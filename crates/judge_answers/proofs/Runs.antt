@@ -21,29 +21,29 @@ use Rattle.judge_draft.specs.Drafts.{Draft, draft, first, attribute}
 use Rattle.judge_history.specs.Told.{Told}
 use Rattle.judge_answers.specs.declared.Places.{Places}
 use Rattle.judge_answers.specs.Answers.{typeCode}
-use Rattle.judge_answers.specs.Served.{room, partOf, typeNumber, isTold, CodesServed, NamesServed, KeysServed, keysAt, KeysTold, Served}
+use Rattle.judge_answers.specs.Served.{room, runOf, typeNumber, isTold, CodesServed, NamesServed, KeysServed, keysAt, KeysTold, Served}
 use Rattle.judge_answers.proofs.Asked.{attribute-there}
 
 -- ---- the parts, by the tests of the code
 module _ (x : List ℕ) (i : ℕ) where
-  pub no-part : length x < 3 * room → take 0 (drop 0 x) ≡ partOf x i
-  unfolding partOf
+  pub no-part : length x < 3 * room → take 0 (drop 0 x) ≡ runOf x i
+  unfolding runOf
   no-part h = rw (lt-leb (3 * room) (length x) h)
 
-  pub its-part : 3 * room ≤ length x → take (i * room + room - i * room) (drop (i * room) x) ≡ partOf x i
-  unfolding partOf
+  pub its-part : 3 * room ≤ length x → take (i * room + room - i * room) (drop (i * room) x) ≡ runOf x i
+  unfolding runOf
   its-part h =
       let e : i * room + room - i * room ≡ room = omega arith in
       rw (le-leb (3 * room) (length x) h, e)
 
 module _ (d : Draft) (s : List ℕ) (p : Places) (x : List ℕ) (l : Served d s p x) (y : List ℕ) where
-  pub codes-served : y ≡ partOf x 0 → CodesServed s p y
+  pub codes-served : y ≡ runOf x 0 → CodesServed s p y
   codes-served e = rw e (l .code-list)
 
-  pub names-served : y ≡ partOf x 1 → NamesServed s p y
+  pub names-served : y ≡ runOf x 1 → NamesServed s p y
   names-served e = rw e (l .register)
 
-  module _ (e : y ≡ partOf x 2) where
+  module _ (e : y ≡ runOf x 2) where
     pub keys-served : KeysServed (typeCode (p .kind)) (attribute d (p .set) (text "root")) s p y
     keys-served = rw e (l .elsewhere)
 

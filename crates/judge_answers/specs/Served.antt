@@ -25,8 +25,8 @@ use Rattle.judge_answers.specs.Answers.{typeCode}
 abbrev pub room : ℕ
 room = rowsLimit + 1
 
-unfoldable pub partOf : List ℕ → ℕ → List ℕ
-partOf x i = pick (leb (3 * room) (length x)) (take room (drop (i * room) x)) []
+unfoldable pub runOf : List ℕ → ℕ → List ℕ
+runOf x i = pick (leb (3 * room) (length x)) (take room (drop (i * room) x)) []
 
 abbrev pub CodesServed : List ℕ → Places → List ℕ → Type 0
 CodesServed s p x = Serves Code (keepsRow Code [] []) s (p .codes) (p .ncodes) x
@@ -57,7 +57,7 @@ isTold p x s = eqb (p .set) s and ltb 0 (length x)
 
 -- the run serves the rows at these places, and the keys of rows of their type and set id
 pub record Served (d : Draft) (s : List ℕ) (p : Places) (x : List ℕ) : Type 0 where
-  pub code-list : CodesServed s p (partOf x 0)
-  pub register : NamesServed s p (partOf x 1)
-  pub elsewhere : KeysServed (typeCode (p .kind)) (attribute d (p .set) (text "root")) s p (partOf x 2)
-  pub others : KeysTold (attribute d (p .set) (text "root")) s p (partOf x 2)
+  pub code-list : CodesServed s p (runOf x 0)
+  pub register : NamesServed s p (runOf x 1)
+  pub elsewhere : KeysServed (typeCode (p .kind)) (attribute d (p .set) (text "root")) s p (runOf x 2)
+  pub others : KeysTold (attribute d (p .set) (text "root")) s p (runOf x 2)

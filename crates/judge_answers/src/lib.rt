@@ -10,7 +10,7 @@ ghost use Rattle.table_rows.specs.Rows.{someRow, isKeyElsewhere, isOtherKey};
 ghost use Rattle.judge_draft.specs.Drafts.{draft, attribute};
 ghost use Rattle.judge_header.specs.Header.{requestCode};
 ghost use Rattle.judge_answers.specs.Answers.{typeCode, tablesAt, isBroken};
-ghost use Rattle.judge_answers.specs.Served.{partOf, typeNumber, isTold, KeysServed, KeysTold, Served};
+ghost use Rattle.judge_answers.specs.Served.{runOf, typeNumber, isTold, KeysServed, KeysTold, Served};
 use judge_draft::Demand;
 use judge_draft::first_byte;
 use judge_paths::DocumentType;
@@ -38,7 +38,7 @@ pub const SIZE: usize = Reader::ROWS + 1;
 // The run's part of number i: the places of the code list's rows, of the register's, of the keys. A run that is too short has none.
 fn part(index: &[u32], i: usize) -> &[u32]
     requires { ⌜ i < 3 ⌝ }
-    ensures { λ r. ⌜ now r ≡ partOf (now (index .entry)) i ⌝ }
+    ensures { λ r. ⌜ now r ≡ runOf (now (index .entry)) i ⌝ }
 {
     if index.len() < 3 * SIZE {
         return &index[0..0];

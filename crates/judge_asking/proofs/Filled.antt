@@ -12,7 +12,7 @@ use mir.Syntax.{w64}
 use Rattle.xml_reader.specs.Limits.{elementsLimit}
 use Rattle.list_findings.specs.Findings.{lastProcedure}
 use Rattle.table_file.specs.Accepted.{Tables}
-use Rattle.judge_draft.specs.Drafts.{Draft, draft, role, count}
+use Rattle.judge_draft.specs.Drafts.{Draft, draft, role, elementCount}
 use Rattle.judge_header.specs.declared.Header.{Header}
 use Rattle.judge_procedures.specs.Procedures.{demandOf, foundAt}
 use Rattle.judge_procedures.proofs.Elsewhere.{elsewhere}

@@ -8,7 +8,7 @@ ghost use Rattle.text_scan.specs.Choice.{_and_};
 ghost use Rattle.xml_reader.specs.Limits.{elementsLimit};
 ghost use Rattle.judge_draft.specs.Drafts.{draft};
 ghost use Rattle.judge_listed.specs.Listed.{breaks3};
-ghost use Rattle.judge_registrations.specs.Registrations.{hasEstablishment};
+ghost use Rattle.judge_operations.specs.Operations.{hasEstablishment};
 ghost use Rattle.judge_answers.specs.Answers.{tablesAt};
 ghost use Rattle.judge_answers.specs.Served.{Served};
 ghost use Rattle.judge_findings.specs.Listed.{broken, listed};
@@ -78,10 +78,10 @@ pub fn fill(
     let mut n = 0;
     let mut total = 0;
     let mut entity = 0;
-    let mut held = judge_registrations::has_establishment(document, notes, 0);
+    let mut held = judge_operations::has_establishment(document, notes, 0);
     while n < notes.len() / 4 {
-        let at = judge_registrations::entity_at(document, notes, entity, n);
-        held = judge_registrations::held_at(document, notes, entity, held, at);
+        let at = judge_operations::entity_at(document, notes, entity, n);
+        held = judge_operations::held_at(document, notes, entity, held, at);
         entity = at;
         let three = judge_listed::breaks_3(document, notes, n);
         let m = mark(

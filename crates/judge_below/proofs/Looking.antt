@@ -19,7 +19,7 @@ use Rattle.text_facts.specs.Strings.{equal, beginsWith}
 use Rattle.judge_below.specs.declared.Test.{Test}
 use Rattle.judge_below.specs.declared.Test.the-variants.{Any, DunsRoot, LabelerRoot, Telephone, Mail, Agent, Import, Empty}
 use Rattle.judge_below.specs.declared.Wanted.{Wanted}
-use Rattle.judge_draft.specs.Drafts.{Draft, draft, count, parent, first, after, is, attribute, said, isEmpty}
+use Rattle.judge_draft.specs.Drafts.{Draft, draft, elementCount, parent, first, after, is, attribute, said, isEmpty}
 use Rattle.judge_below.specs.Chosen.{dunsRoot, labelerRoot, agentCode, importCode, passes, ancestor, placed, wants, inside, within, chosenFrom, chosen, firstOne, onlyOne, isThe}
 
 -- ---- an ancestor, by the branches of its loop
@@ -84,33 +84,33 @@ module _ (d : Draft) (w : Wanted) (n k : ℕ) where
 
 -- ---- the list from one number to the next
 module _ (d : Draft) (w : Wanted) (n : ℕ) where
-  step : (k m : ℕ) → count d - k ≡ suc m → chosenFrom d w n k ≡ pick (inside d n k) (pick (wants d w n k) (k ∷ within d w n (k + 1) m) (within d w n (k + 1) m)) []
+  step : (k m : ℕ) → elementCount d - k ≡ suc m → chosenFrom d w n k ≡ pick (inside d n k) (pick (wants d w n k) (k ∷ within d w n (k + 1) m) (within d w n (k + 1) m)) []
   unfolding chosenFrom within
   step k m e = rw e
 
-  module _ (k : ℕ) (h : k < count d) where
+  module _ (k : ℕ) (h : k < elementCount d) where
     m : ℕ
-    m = count d - (k + 1)
+    m = elementCount d - (k + 1)
 
-    left : count d - k ≡ suc (count d - (k + 1))
+    left : elementCount d - k ≡ suc (elementCount d - (k + 1))
     left = omega arith
 
     is-over : after d n ≤ first d k → chosenFrom d w n k ≡ []
-    is-over g = step k (count d - (k + 1)) left ∙ rw (le-ltb (first d k) (after d n) g)
+    is-over g = step k (elementCount d - (k + 1)) left ∙ rw (le-ltb (first d k) (after d n) g)
 
     module _ (i : first d k < after d n) where
       is-next : wants d w n k ≡ true → chosenFrom d w n k ≡ k ∷ chosenFrom d w n (k + 1)
       unfolding chosenFrom
-      is-next f = step k (count d - (k + 1)) left ∙ rw (lt-ltb (first d k) (after d n) i, f)
+      is-next f = step k (elementCount d - (k + 1)) left ∙ rw (lt-ltb (first d k) (after d n) i, f)
 
       is-later : wants d w n k ≡ false → chosenFrom d w n k ≡ chosenFrom d w n (k + 1)
       unfolding chosenFrom
-      is-later f = step k (count d - (k + 1)) left ∙ rw (lt-ltb (first d k) (after d n) i, f)
+      is-later f = step k (elementCount d - (k + 1)) left ∙ rw (lt-ltb (first d k) (after d n) i, f)
 
-  no-more : (k : ℕ) → count d ≤ k → chosenFrom d w n k ≡ []
+  no-more : (k : ℕ) → elementCount d ≤ k → chosenFrom d w n k ≡ []
   unfolding chosenFrom within
   no-more k h =
-      let e : count d - k ≡ 0 = omega arith in
+      let e : elementCount d - k ≡ 0 = omega arith in
       rw e
 
   -- ---- the next one
@@ -119,7 +119,7 @@ module _ (d : Draft) (w : Wanted) (n : ℕ) where
 
 -- the loops test the number against the length of the table that is lent
 module _ (s notes : List ℕ) (w : Wanted) (n : ℕ) where
-  its-count : length notes / 4 ≡ count (draft s notes)
+  its-count : length notes / 4 ≡ elementCount (draft s notes)
   unfolding draft
   its-count = refl
 
@@ -229,12 +229,12 @@ module _ (d : Draft) (w : Wanted) (n : ℕ) where
 
   -- what is first is followed by those from the next number on
   abbrev First : ℕ → List ℕ → Type 0
-  First r l = (r < count d) × (l ≡ r ∷ chosenFrom d w n (r + 1))
+  First r l = (r < elementCount d) × (l ≡ r ∷ chosenFrom d w n (r + 1))
 
   nothing-first : {A : Type 0} (r : ℕ) → Nothing ≡ At r → A
   nothing-first r e = absurd (let z : _≡_ {A = ℕ} 0 1 = cc in omega arith)
 
-  first-one : (m k r : ℕ) → k + m ≡ count d → firstOne (within d w n k m) ≡ At r → First r (within d w n k m)
+  first-one : (m k r : ℕ) → k + m ≡ elementCount d → firstOne (within d w n k m) ≡ At r → First r (within d w n k m)
   unfolding within chosenFrom
   first-one zero k r h e = nothing-first r e
   first-one (suc m) k r h e = go (inside d n k) (wants d w n k) e (first-one m (k + 1) r (omega arith))
@@ -242,18 +242,18 @@ module _ (d : Draft) (w : Wanted) (n : ℕ) where
       go : (i t : Bool) → firstOne (pick i (pick t (k ∷ within d w n (k + 1) m) (within d w n (k + 1) m)) []) ≡ At r → (firstOne (within d w n (k + 1) m) ≡ At r → First r (within d w n (k + 1) m)) → First r (pick i (pick t (k ∷ within d w n (k + 1) m) (within d w n (k + 1) m)) [])
       go true true e f =
           let q : k ≡ r = cc in
-          let a : m ≡ count d - (r + 1) = omega arith in
+          let a : m ≡ elementCount d - (r + 1) = omega arith in
           (omega arith, rw (← a, q))
       go true false e f = f e
       go false t e f = nothing-first r e
 
   at-first : (i k : ℕ) → firstOne (chosenFrom d w n i) ≡ At k → First k (chosenFrom d w n i)
   unfolding chosenFrom
-  at-first i k e = go (ltb i (count d)) refl
+  at-first i k e = go (ltb i (elementCount d)) refl
     where
-      go : (t : Bool) → ltb i (count d) ≡ t → First k (within d w n i (count d - i))
-      go true q = first-one (count d - i) i k (omega (arith, ltb-true i (count d) q)) e
-      go false q = nothing-first k (sym (ap firstOne (no-more d w n i (ltb-false i (count d) q))) ∙ e)
+      go : (t : Bool) → ltb i (elementCount d) ≡ t → First k (within d w n i (elementCount d - i))
+      go true q = first-one (elementCount d - i) i k (omega (arith, ltb-true i (elementCount d) q)) e
+      go false q = nothing-first k (sym (ap firstOne (no-more d w n i (ltb-false i (elementCount d) q))) ∙ e)
 
   module _ (x : Found) (f : x ≡ firstOne (chosenFrom d w n (n + 1))) where
     pub only-none : x ≡ Nothing → Nothing ≡ onlyOne (chosen d w n)

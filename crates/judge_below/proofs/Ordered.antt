@@ -11,9 +11,9 @@ use lib.Dec.{eqb, ltb, leb}
 use lib.ListN.{length}
 use Rattle.text_scan.specs.Choice.{pick, _and_, not}
 use Rattle.text_scan.proofs.Tests.{and-left, and-right, and-false, and-true}
-use Rattle.xml_nesting.specs.Ordered.{Ordered}
+use Rattle.xml_nesting.specs.Nested.{Nested}
 use Rattle.judge_below.specs.declared.Wanted.{Wanted}
-use Rattle.judge_draft.specs.Drafts.{Draft, count, parent, first, after, is}
+use Rattle.judge_draft.specs.Drafts.{Draft, elementCount, parent, first, after, is}
 use Rattle.judge_below.specs.Chosen.{passes, ancestor, placed, wants, within, chosenFrom, chosen}
 
 -- ---- the words
@@ -24,7 +24,7 @@ those p k (suc m) = pick (p k) (k ∷ those p (k + 1) m) (those p (k + 1) m)
 
 -- of all elements of the table, those with the property
 abbrev pub all : Draft → (ℕ → Bool) → List ℕ
-all d p = those p 0 (count d)
+all d p = those p 0 (elementCount d)
 
 -- k stands below n: it starts behind n's first byte, and ends no later than n
 unfoldable pub standsBelow : Draft → ℕ → ℕ → Bool
@@ -53,8 +53,8 @@ unmet : (b : Bool) → (b ≡ true → ⊥) → b ≡ false
 unmet true f = absurd (f refl)
 unmet false f = refl
 
-module _ (d : Draft) (size : ℕ) (o : Ordered (d .notes) size) (wide : length (d .notes) ≡ 4 * size) where
-  its-size : count d ≡ size
+module _ (d : Draft) (size : ℕ) (o : Nested (d .notes) size) (wide : length (d .notes) ≡ 4 * size) where
+  its-size : elementCount d ≡ size
   its-size = omega (arith, wide)
 
   later : (j k : ℕ) → j ≤ k → k < size → first d j ≤ first d k

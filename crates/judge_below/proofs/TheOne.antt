@@ -10,7 +10,7 @@ use Rattle.text_scan.specs.Choice.{pick, _and_}
 use Rattle.text_scan.proofs.Tests.{never, and-true, and-false, and-left, and-right}
 use Rattle.text_scan.specs.declared.Found.{Found}
 use Rattle.text_scan.specs.declared.Found.the-variants.{At, Nothing}
-use Rattle.judge_draft.specs.Drafts.{Draft, count, is}
+use Rattle.judge_draft.specs.Drafts.{Draft, elementCount, is}
 use Rattle.judge_below.specs.declared.Wanted.{Wanted}
 use Rattle.judge_below.specs.Chosen.{passes, ancestor, placed, wants, inside, within, chosenFrom, chosen, onlyOne, one, oneHas, isThe}
 
@@ -50,7 +50,7 @@ module _ (d : Draft) (w : Wanted) (p : ℕ) where
 
   its-wanted : (n : ℕ) → isThe (onlyOne (chosen d w p)) n ≡ true → wants d w p n ≡ true
   unfolding chosen chosenFrom
-  its-wanted n e = the-wanted (chosen d w p) (all-within (count d - (p + 1)) (p + 1)) n e
+  its-wanted n e = the-wanted (chosen d w p) (all-within (elementCount d - (p + 1)) (p + 1)) n e
 
   module _ (n : ℕ) (e : isThe (onlyOne (chosen d w p)) n ≡ true) where
     pub its-role : is d (w .role) n ≡ true

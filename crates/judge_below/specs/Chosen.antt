@@ -12,7 +12,7 @@ use Rattle.text_scan.specs.declared.Found.the-variants.{At, Nothing}
 use Rattle.judge_below.specs.declared.Test.{Test}
 use Rattle.judge_below.specs.declared.Test.the-variants.{Any, DunsRoot, LabelerRoot, Telephone, Mail, Agent, Import, Empty}
 use Rattle.judge_below.specs.declared.Wanted.{Wanted}
-use Rattle.judge_draft.specs.Drafts.{Draft, count, parent, first, after, is, said, isEmpty, attributeIs, valueBegins}
+use Rattle.judge_draft.specs.Drafts.{Draft, elementCount, parent, first, after, is, said, isEmpty, attributeIs, valueBegins}
 
 -- ---- the tests, with the texts that document 01 names
 abbrev pub dunsRoot : List ℕ
@@ -64,7 +64,7 @@ within d w n k (suc m) =
 
 -- of all elements from k on
 unfoldable pub chosenFrom : Draft → Wanted → ℕ → ℕ → List ℕ
-chosenFrom d w n k = within d w n k (count d - k)
+chosenFrom d w n k = within d w n k (elementCount d - k)
 
 -- those below n, in document order
 unfoldable pub chosen : Draft → Wanted → ℕ → List ℕ

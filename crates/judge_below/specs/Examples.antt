@@ -4,7 +4,7 @@ use Prim.Native.Nat.{ℕ}
 use mathlib.Core.Path.{_≡_, refl}
 use mathlib.Core.List.{List, [], _∷_, _++_}
 use Rattle.text_scan.specs.declared.Found.the-variants.{At, Nothing}
-use Rattle.xml_steps.specs.Reading.{row}
+use Rattle.xml_steps.specs.Reading.{elementRow}
 use Rattle.judge_paths.specs.Roles.{Unknown, Unlisted, Root, Id, Author, Entity1, Labeler}
 use Rattle.judge_below.specs.declared.Test.the-variants.{Any}
 use Rattle.judge_draft.specs.Drafts.{Draft, draft, is}
@@ -14,8 +14,8 @@ use Rattle.judge_below.specs.Chosen.{passes, ancestor, wants, placed, wi
 abbrev its : Draft
 its =
     draft []
-    (row Root 0 0 105 ++ row Id 0 3 8 ++ row Unlisted 0 8 20 ++ row Unknown 2 11 16 ++ row Id 0 20 25 ++ row Author 0 25 101
-    ++ row Entity1 5 33 92 ++ row Labeler 6 49 75)
+    (elementRow Root 0 0 105 ++ elementRow Id 0 3 8 ++ elementRow Unlisted 0 8 20 ++ elementRow Unknown 2 11 16 ++ elementRow Id 0 20 25 ++ elementRow Author 0 25 101
+    ++ elementRow Entity1 5 33 92 ++ elementRow Labeler 6 49 75)
 
 its-ids : kids its 0 Id ≡ 1 ∷ 4 ∷ []
 unfolding draft is passes ancestor wants placed within chosenFrom chosen

@@ -1,4 +1,4 @@
-// CheckLeft a document under two tables files and merges the two lists: what the check under the joined file answers, without that file.
+// Checks a document under two tables files and merges the two lists: what the check under the joined file answers, without that file.
 ghost use mathlib.Core.Path.{_≡_};
 ghost use Prim.Native.Nat.{_*_, _≤_};
 ghost use lib.ListN.{length};
@@ -28,7 +28,7 @@ fn merge_fronts(first: &[u32], n: usize, second: &[u32], m: usize, out: &mut [u3
     as_answer(list_merge_numbers::merge(&first[0..k], &second[0..j], out))
 }
 
-// CheckLeft under the second file, and merges what was found with the n findings under the first.
+// Checks under the second file, and merges what was found with the n findings under the first.
 fn check_second(
     document: &[u8],
     other: &[u8],
@@ -48,7 +48,7 @@ fn check_second(
     }
 }
 
-// CheckLeft under the first file, then under the second, and merges what was found into the third list.
+// Checks under the first file, then under the second, and merges what was found into the third list.
 pub fn check_both(
     document: &[u8],
     one: &[u8],

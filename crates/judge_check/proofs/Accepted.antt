@@ -6,22 +6,23 @@ use mathlib.Core.List.{List, _++_}
 use Prim.Native.Nat.{ℕ, _*_, _/_}
 use native.Mathlib.Omega.{arith}
 use borrow.Author.Tests.{leb-true}
-use lib.Dec.{leb, ltb}
+use lib.Dec.{leb}
 use lib.ListN.{length, drop}
 use Rattle.text_scan.specs.Choice.{pick}
 use Rattle.list_findings.specs.Findings.{width, filled}
-use Rattle.table_file.specs.declared.Accepted.{Accepted as File}
-use Rattle.xml_reader.specs.Limits.{documentLimit, tablesLimit, scratchLimit}
-use Rattle.table_file.specs.Accepted.{Tables, accepted, tablesOf}
+use Rattle.table_file.specs.Accepted.{tablesOf}
+use Rattle.judge_input.specs.declared.Input.{Input}
+use Rattle.judge_input.specs.Input.{admitted}
+use Rattle.judge_input.specs.Scratch.{cleared}
 use Rattle.xml_steps.specs.Reading.{Read, refused, elements}
 use Rattle.xml_elements.specs.Elements.{elementsOf}
 use Rattle.judge_findings.specs.Listed.{findingsOf}
 use Rattle.judge_findings.specs.declared.Answer.{Answer}
 use Rattle.judge_findings.specs.declared.Answer.the-variants.{Findings, Refused}
-use Rattle.judge_document.specs.Drafted.{draftOf}
+use Rattle.judge_type.specs.Drafted.{draftOf}
 use Rattle.judge_check.specs.Long.{longValue}
 use Rattle.judge_findings.specs.Room.{answerIn, listIn}
-use Rattle.judge_check.specs.Check.{Outcome, cleared, unlessLong, refuse, afterReading, underFile, checkOf, CheckLeft}
+use Rattle.judge_check.specs.Check.{Outcome, unlessLong, refuse, afterReading, afterInput, checkOf, CheckLeft}
 use Rattle.judge_check.specs.Accepted.{foundIn, Accepted}
 use Rattle.judge_check.proofs.Values.{none-long}
 
@@ -68,16 +69,10 @@ module _ (s file scratch table list : List ℕ) (n : ℕ) where
       go true = rw (none-long s rows) (fine-found k rows e)
       go false = λ a. refused-never 9 k n a
 
-  fine-file : (x : File) → Fine (underFile s file scratch table list x)
-  fine-file (File.Refused place) a = refused-never 4 place n a
-  fine-file (File.Tables c cs r rs h hs) a = fine-read (elementsOf s) refl a
-
   pub accepted-check : checkOf s file scratch table list .answer ≡ Findings n → Accepted s file list n (checkOf s file scratch table list .list)
   unfolding checkOf
-  accepted-check = first (ltb documentLimit (length s)) (ltb tablesLimit (length file)) (ltb (length scratch) scratchLimit)
+  accepted-check = go (admitted s file (length scratch))
     where
-      first : (a b c : Bool) → Fine (pick a (refuse scratch table list 1 (length s)) (pick b (refuse scratch table list 2 (length file)) (pick c (refuse scratch table list 3 scratchLimit) (underFile s file scratch table list (accepted file)))))
-      first true b c e = refused-never 1 (length s) n e
-      first false true c e = refused-never 2 (length file) n e
-      first false false true e = refused-never 3 scratchLimit n e
-      first false false false e = fine-file (accepted file) e
+      go : (x : Input) → Fine (afterInput s file scratch table list x)
+      go (Input.Refused number value) a = refused-never number value n a
+      go (Input.Tables sections) a = fine-read (elementsOf s) refl a

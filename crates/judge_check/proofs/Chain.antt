@@ -5,31 +5,32 @@ use mathlib.Core.Bool.{Bool, true, false}
 use mathlib.Core.List.{List, [], _∷_, _++_}
 use Prim.Native.Nat.{ℕ, _+_, _-_, _*_, _/_, _<_, _≤_}
 use native.Mathlib.Omega.{arith}
-use borrow.Author.Tests.{le-leb, lt-leb, leb-true, lt-ltb, le-ltb}
-use lib.Dec.{leb, ltb}
+use borrow.Author.Tests.{le-leb, leb-true}
+use lib.Dec.{leb}
 use lib.ListN.{length, take, drop, length-append}
 use lib.Seq.{take-append-seam}
 use mir.Val.{Fits}
 use mir.Syntax.{w64}
 use Rattle.text_scan.specs.Choice.{pick}
-use Rattle.xml_reader.specs.Limits.{documentLimit, tablesLimit, scratchLimit, elementsLimit}
-use Rattle.table_file.specs.Accepted.{Tables, accepted, tablesOf}
-use Rattle.table_file.specs.declared.Accepted.{Accepted}
+use Rattle.xml_reader.specs.Limits.{scratchLimit, elementsLimit}
+use Rattle.table_file.specs.Accepted.{Tables}
+use Rattle.judge_input.specs.declared.Input.{Input}
+use Rattle.judge_input.specs.declared.Sections.{Sections}
+use Rattle.judge_input.specs.Input.{admitted, sectionTables}
+use Rattle.judge_input.specs.Scratch.{cleared}
+use Rattle.judge_input.proofs.Admitted.{Admits, admits}
 use Rattle.xml_elements.specs.declared.Answer.{Answer as Reading}
 use Rattle.xml_elements.specs.declared.Answer.the-variants.{Elements, Refused as NotRead}
 use Rattle.xml_steps.specs.Reading.{Read, refused, elements}
 use Rattle.xml_elements.specs.Elements.{elementsOf, answerOf, tableAfter, ElementsLeft as Reads}
 use Rattle.xml_nesting.proofs.Read.{Rows, rows-read}
-use Rattle.judge_paths.specs.declared.DocumentType.the-variants.{Neither}
-use Rattle.judge_answers.specs.declared.Places.{Places}
-use Rattle.judge_answers.specs.Answers.{tablesAt}
 use Rattle.judge_findings.specs.Listed.{findingsOf}
 use Rattle.judge_findings.specs.declared.Answer.{Answer}
 use Rattle.judge_findings.specs.declared.Answer.the-variants.{Findings, Refused}
-use Rattle.judge_document.specs.Drafted.{draftOf}
+use Rattle.judge_type.specs.Drafted.{draftOf}
 use Rattle.judge_check.specs.Long.{longValue}
 use Rattle.judge_findings.specs.Room.{answerIn, listIn, FindingsLeft}
-use Rattle.judge_check.specs.Check.{Outcome, cleared, afterReading, underFile, checkOf, CheckLeft}
+use Rattle.judge_check.specs.Check.{Outcome, afterReading, checkOf, CheckLeft}
 use Rattle.judge_check.proofs.Values.{none-long}
 
 -- ---- what a reading answered
@@ -124,32 +125,19 @@ module _ (s table : List ℕ) (a : Reading) (after : List ℕ) (l : Reads (eleme
           lists = h .lists ∙ ap (λ x. listIn (findingsOf (draftOf s x) t) list) front;
         }
 
--- ---- the chain
-module _ (s file scratch table list : List ℕ) where
-  pub refused-1 : documentLimit < length s → CheckLeft (checkOf s file scratch table list) (Refused 1 (length s)) scratch table list
+-- ---- what is handed in
+module _ (s file scratch table list : List ℕ) (x : Input) (e : x ≡ admitted s file (length scratch)) where
+  pub not-admitted : (number value : ℕ) → x ≡ Input.Refused number value → CheckLeft (checkOf s file scratch table list) (Refused number value) scratch table list
   unfolding checkOf
-  refused-1 h = rw (lt-ltb documentLimit (length s) h) record { answers = refl; scratches = refl; tables = refl; lists = refl }
+  not-admitted number value f = rw (← e, f) record { answers = refl; scratches = refl; tables = refl; lists = refl }
 
-  module _ (a : length s ≤ documentLimit) where
-    pub refused-2 : tablesLimit < length file → CheckLeft (checkOf s file scratch table list) (Refused 2 (length file)) scratch table list
+  module _ (t : Sections) (f : x ≡ Input.Tables t) where
+    its-input : Admits file (length scratch) t
+    its-input = admits s file (length scratch) t (sym e ∙ f)
+
+    pub admitted-scratch : scratchLimit ≤ length scratch
+    admitted-scratch = its-input .room
+
+    pub all-admitted : (r : Answer) (scratch′ table′ list′ : List ℕ) → CheckLeft (afterReading s (sectionTables file t) scratch table list (elementsOf s)) r scratch′ table′ list′ → CheckLeft (checkOf s file scratch table list) r scratch′ table′ list′
     unfolding checkOf
-    refused-2 h = rw (le-ltb documentLimit (length s) a, lt-ltb tablesLimit (length file) h) record { answers = refl; scratches = refl; tables = refl; lists = refl }
-
-    module _ (b : length file ≤ tablesLimit) where
-      pub refused-3 : length scratch < scratchLimit → CheckLeft (checkOf s file scratch table list) (Refused 3 scratchLimit) scratch table list
-      unfolding checkOf
-      refused-3 h = rw (le-ltb documentLimit (length s) a, le-ltb tablesLimit (length file) b, lt-ltb (length scratch) scratchLimit h) record { answers = refl; scratches = refl; tables = refl; lists = refl }
-
-      module _ (c : scratchLimit ≤ length scratch) (x : Accepted) (e : x ≡ accepted file) where
-        come : checkOf s file scratch table list ≡ underFile s file scratch table list x
-        unfolding checkOf
-        come = rw (le-ltb documentLimit (length s) a, le-ltb tablesLimit (length file) b, le-ltb (length scratch) scratchLimit c, e)
-
-        pub refused-4 : (place : ℕ) → x ≡ Accepted.Refused place → CheckLeft (checkOf s file scratch table list) (Refused 4 place) scratch table list
-        refused-4 place f = rw (come, f) record { answers = refl; scratches = refl; tables = refl; lists = refl }
-
-        pub all-accepted : (c cs n ns h hs : ℕ) → x ≡ Accepted.Tables c cs n ns h hs → (r : Answer) (scratch′ table′ list′ : List ℕ) → CheckLeft (afterReading s (tablesAt file (record { codes = c; ncodes = cs; names = n; nnames = ns; history = h; nhistory = hs; kind = Neither; set = 0; first = 0; several = false })) scratch table list (elementsOf s)) r scratch′ table′ list′ → CheckLeft (checkOf s file scratch table list) r scratch′ table′ list′
-        unfolding tablesOf
-        all-accepted c cs n ns h hs f r scratch′ table′ list′ l =
-            let g : accepted file ≡ Accepted.Tables c cs n ns h hs = sym e ∙ f in
-            rw (come, f, g) l
+    all-admitted r scratch′ table′ list′ l = rw (← e, f, its-input .rows) l

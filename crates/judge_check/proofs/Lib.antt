@@ -1,4 +1,3 @@
-pub mod Cleared
 pub mod Values
 pub mod Chain
 pub mod Accepted

@@ -10,7 +10,7 @@ use Rattle.table_file.specs.Accepted.{tablesOf}
 use Rattle.xml_steps.specs.Reading.{elements}
 use Rattle.xml_elements.specs.Elements.{elementsOf}
 use Rattle.judge_findings.specs.Listed.{findingsOf}
-use Rattle.judge_document.specs.Drafted.{draftOf}
+use Rattle.judge_type.specs.Drafted.{draftOf}
 
 -- the findings of a document with these rows under a file
 unfoldable pub foundIn : List ℕ → List ℕ → List ℕ → List Finding

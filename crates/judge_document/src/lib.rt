@@ -6,10 +6,12 @@ ghost use Rattle.xml_reader.specs.Limits.{elementsLimit};
 ghost use Rattle.judge_answers.specs.Answers.{tablesAt};
 ghost use Rattle.judge_findings.specs.Listed.{findingsOf};
 ghost use Rattle.judge_findings.specs.Room.{FindingsLeft};
-ghost use Rattle.judge_document.specs.Drafted.{draftAs, typeIn, draftOf};
+ghost use Rattle.judge_input.specs.Input.{sectionTables};
+ghost use Rattle.judge_type.specs.Drafted.{draftAs, draftOf};
 ghost use Rattle.judge_document.specs.Typed.{few, placesFor};
 use judge_answers::Places;
 use judge_findings::Answer;
+use judge_input::Sections;
 use judge_paths::DocumentType;
 use xml_reader::Reader;
 
@@ -35,29 +37,17 @@ fn judge_typed(
     judge_noted::judge(document, &notes[0..end], tables, places, marks, list)
 }
 
-// The type of a document, by its header.
-fn type_in(document: &[u8], elements: &[u32], notes: &mut [u32]) -> DocumentType
-    requires { ⌜ 4 * (length (now elements) / 4) ≤ length (now notes) ⌝ }
-    ensures { λ r. ⌜ r ≡ typeIn (now (document .entry)) (now (elements .entry)) ⌝ }
-{
-    judge_notes::fill(document, elements, DocumentType::Neither, notes);
-    let end = 4 * (elements.len() / 4);
-    let plain = &notes[0..end];
-    let header = judge_header::header_of(document, plain);
-    judge_header::type_of(document, plain, header)
-}
-
-// The places, for a document of this type.
-fn places_for(places: Places, kind: DocumentType) -> Places
-    ensures { λ r. ⌜ r ≡ placesFor places kind ⌝ }
+// The places of these sections, for a document of this type.
+fn places_for(sections: Sections, kind: DocumentType) -> Places
+    ensures { λ r. ⌜ r ≡ placesFor sections kind ⌝ }
 {
     Places {
-        codes: places.codes,
-        ncodes: places.ncodes,
-        names: places.names,
-        nnames: places.nnames,
-        history: places.history,
-        nhistory: places.nhistory,
+        codes: sections.codes,
+        ncodes: sections.ncodes,
+        names: sections.names,
+        nnames: sections.nnames,
+        history: sections.history,
+        nhistory: sections.nhistory,
         kind: kind,
         set: 0,
         first: 0,
@@ -70,20 +60,20 @@ fn judge_within(
     document: &[u8],
     elements: &[u32],
     tables: &[u8],
-    places: Places,
+    sections: Sections,
     notes: &mut [u32],
     marks: &mut [u64],
     list: &mut [u32],
 ) -> Answer
     requires { ⌜ (4 * (length (now elements) / 4) ≤ length (now notes)) × (length (now elements) / 4 ≤ length (now marks)) × (length (now marks) ≤ elementsLimit) ⌝ }
-    ensures { λ r. ⌜ FindingsLeft (findingsOf (draftOf (now (document .entry)) (now (elements .entry))) (tablesAt (now (tables .entry)) places)) (now (list .entry)) r (now (list .exit)) ⌝ }
+    ensures { λ r. ⌜ FindingsLeft (findingsOf (draftOf (now (document .entry)) (now (elements .entry))) (sectionTables (now (tables .entry)) sections)) (now (list .entry)) r (now (list .exit)) ⌝ }
 {
-    let kind = type_in(document, elements, notes);
+    let kind = judge_type::type_in(document, elements, notes);
     judge_typed(
         document,
         elements,
         tables,
-        places_for(places, kind),
+        places_for(sections, kind),
         notes,
         marks,
         list,
@@ -95,11 +85,11 @@ fn judge_small(
     document: &[u8],
     elements: &[u32],
     tables: &[u8],
-    places: Places,
+    sections: Sections,
     list: &mut [u32],
 ) -> Answer
     requires { ⌜ length (now elements) / 4 ≤ few ⌝ }
-    ensures { λ r. ⌜ FindingsLeft (findingsOf (draftOf (now (document .entry)) (now (elements .entry))) (tablesAt (now (tables .entry)) places)) (now (list .entry)) r (now (list .exit)) ⌝ }
+    ensures { λ r. ⌜ FindingsLeft (findingsOf (draftOf (now (document .entry)) (now (elements .entry))) (sectionTables (now (tables .entry)) sections)) (now (list .entry)) r (now (list .exit)) ⌝ }
 {
     let mut notes = [0u32; 4 * FEW];
     let mut marks = [0u64; FEW];
@@ -107,7 +97,7 @@ fn judge_small(
         document,
         elements,
         tables,
-        places,
+        sections,
         &mut notes,
         &mut marks,
         list,
@@ -119,11 +109,11 @@ fn judge_large(
     document: &[u8],
     elements: &[u32],
     tables: &[u8],
-    places: Places,
+    sections: Sections,
     list: &mut [u32],
 ) -> Answer
     requires { ⌜ length (now elements) / 4 ≤ elementsLimit ⌝ }
-    ensures { λ r. ⌜ FindingsLeft (findingsOf (draftOf (now (document .entry)) (now (elements .entry))) (tablesAt (now (tables .entry)) places)) (now (list .entry)) r (now (list .exit)) ⌝ }
+    ensures { λ r. ⌜ FindingsLeft (findingsOf (draftOf (now (document .entry)) (now (elements .entry))) (sectionTables (now (tables .entry)) sections)) (now (list .entry)) r (now (list .exit)) ⌝ }
 {
     let mut notes = [0u32; 4 * Reader::ELEMENTS];
     let mut marks = [0u64; Reader::ELEMENTS];
@@ -131,7 +121,7 @@ fn judge_large(
         document,
         elements,
         tables,
-        places,
+        sections,
         &mut notes,
         &mut marks,
         list,
@@ -143,14 +133,14 @@ pub fn judge(
     document: &[u8],
     elements: &[u32],
     tables: &[u8],
-    places: Places,
+    sections: Sections,
     list: &mut [u32],
 ) -> Answer
     requires { ⌜ length (now elements) / 4 ≤ elementsLimit ⌝ }
-    ensures { λ r. ⌜ FindingsLeft (findingsOf (draftOf (now (document .entry)) (now (elements .entry))) (tablesAt (now (tables .entry)) places)) (now (list .entry)) r (now (list .exit)) ⌝ }
+    ensures { λ r. ⌜ FindingsLeft (findingsOf (draftOf (now (document .entry)) (now (elements .entry))) (sectionTables (now (tables .entry)) sections)) (now (list .entry)) r (now (list .exit)) ⌝ }
 {
     if elements.len() / 4 <= FEW {
-        return judge_small(document, elements, tables, places, list);
+        return judge_small(document, elements, tables, sections, list);
     }
-    judge_large(document, elements, tables, places, list)
+    judge_large(document, elements, tables, sections, list)
 }

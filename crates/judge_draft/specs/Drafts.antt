@@ -11,7 +11,7 @@ use Rattle.text_facts.specs.Strings.{equal, beginsWith}
 use Rattle.xml_steps.specs.Reading.{parentOf, firstOf, afterOf}
 use Rattle.xml_values.specs.Attributes.{attributeOf}
 use Rattle.xml_texts.specs.Texts.{textOf}
-use Rattle.judge_paths.specs.Roles.{isKnown as isKnownRole}
+use Rattle.judge_paths.specs.Roles.{isKnownRole}
 
 -- the document, and its notes: for each element its role, its parent, its first byte and the byte after its end
 pub record Draft : Type 0 where
@@ -22,8 +22,8 @@ unfoldable pub draft : List ℕ → List ℕ → Draft
 draft bytes notes = record { bytes = bytes; notes = notes }
 
 -- the number of elements
-abbrev pub count : Draft → ℕ
-count d = length (d .notes) / 4
+abbrev pub elementCount : Draft → ℕ
+elementCount d = length (d .notes) / 4
 
 abbrev pub role : Draft → ℕ → ℕ
 role d n = getD (d .notes) (4 * n) 0

@@ -17,7 +17,7 @@ use Rattle.list_findings.specs.Findings.{precedes, lastProcedure, isValid}
 use Rattle.list_findings.specs.Lists.{Ordered, All, Good, same, has}
 use Rattle.list_findings.proofs.Order.{first-below, first-same}
 use Rattle.list_findings.proofs.Lists.{same-is, same-self, has-head, has-tail, has-cases}
-use Rattle.judge_draft.specs.Drafts.{Draft, count, first, after}
+use Rattle.judge_draft.specs.Drafts.{Draft, elementCount, first, after}
 use Rattle.judge_findings.specs.Listed.{finding, listedAt, listedFrom, listed}
 use Rattle.judge_findings.specs.Holding.{Judged, Holds, InDocumentOrder}
 use Rattle.judge_findings.proofs.Together.{Mark, these, Ahead, InOrder, Right, AllRight, these-ordered}
@@ -55,15 +55,15 @@ module _ (d : Draft) (a b c : ℕ → ℕ → Bool) where
   order-at n p zero rest f o = o
   order-at n p (suc m) rest f o = (ahead-same n p (p + 1) (omega arith) m rest (f p), order-at n (p + 1) m rest f o)
 
-  order-from : InDocumentOrder d → (m n : ℕ) → n + m ≤ count d → InOrder (marksFrom n m)
+  order-from : InDocumentOrder d → (m n : ℕ) → n + m ≤ elementCount d → InOrder (marksFrom n m)
   order-from i zero n h = tt
   order-from i (suc m) n h =
       order-at n 1 lastProcedure (marksFrom (n + 1) m)
       (λ q. ahead-from (finding d n q) m (n + 1) (λ k g f. i .rises n k (omega arith) (omega arith)))
       (order-from i m (n + 1) (omega arith))
 
-  pub marks-ordered : InDocumentOrder d → InOrder (marksFrom 0 (count d))
-  marks-ordered i = order-from i (count d) 0 (omega arith)
+  pub marks-ordered : InDocumentOrder d → InOrder (marksFrom 0 (elementCount d))
+  marks-ordered i = order-from i (elementCount d) 0 (omega arith)
 
   -- ---- each right
   module _ (class : ℕ → Class) (r : (n p : ℕ) → Right class (mark n p)) where
@@ -75,8 +75,8 @@ module _ (d : Draft) (a b c : ℕ → ℕ → Bool) where
     right-from n zero = tt
     right-from n (suc m) = right-at n 1 lastProcedure (marksFrom (n + 1) m) (right-from (n + 1) m)
 
-    pub marks-right : AllRight class (marksFrom 0 (count d))
-    marks-right = right-from 0 (count d)
+    pub marks-right : AllRight class (marksFrom 0 (elementCount d))
+    marks-right = right-from 0 (elementCount d)
 
   -- ---- those that are marked are listed
   module _ (f : Mark → Bool) (g : ℕ → ℕ → Bool) (e : (n p : ℕ) → f (mark n p) ≡ g n p) where
@@ -94,19 +94,19 @@ module _ (d : Draft) (a b c : ℕ → ℕ → Bool) where
     these-from n zero = refl
     these-from n (suc m) = these-at n 1 lastProcedure (marksFrom (n + 1) m) ∙ ap (λ l. listedAt d g n 1 lastProcedure ++ l) (these-from (n + 1) m)
 
-    pub these-listed : these f (marksFrom 0 (count d)) ≡ listed d g
+    pub these-listed : these f (marksFrom 0 (elementCount d)) ≡ listed d g
     unfolding listed
-    these-listed = these-from 0 (count d)
+    these-listed = these-from 0 (elementCount d)
 
 -- ---- one list
 module _ (d : Draft) (b : ℕ → ℕ → Bool) where
   pub listed-ordered : InDocumentOrder d → Ordered (listed d b)
   listed-ordered i =
       rw (these-listed d b b b (λ x. x .first) b (λ n p. refl)) at
-      (these-ordered (λ x. x .first) (marksFrom d b b b 0 (count d)) (marks-ordered d b b b i))
+      (these-ordered (λ x. x .first) (marksFrom d b b b 0 (elementCount d)) (marks-ordered d b b b i))
 
   -- what is held is broken
-  holds-at : (n : ℕ) → n < count d → (p m : ℕ) → 1 ≤ p → p + m ≤ lastProcedure + 1 → (r : Finding) → has r (listedAt d b n p m) ≡ true → Holds d b r
+  holds-at : (n : ℕ) → n < elementCount d → (p m : ℕ) → 1 ≤ p → p + m ≤ lastProcedure + 1 → (r : Finding) → has r (listedAt d b n p m) ≡ true → Holds d b r
   unfolding listedAt has
   holds-at n h p zero l g r e = never (sym e)
   holds-at n h p (suc m) l g r e = go (b n p) refl e (holds-at n h (p + 1) m (omega arith) (omega arith) r)
@@ -128,7 +128,7 @@ module _ (d : Draft) (b : ℕ → ℕ → Bool) where
       go true e = refl
       go false e = e
 
-  holds-from : (m n : ℕ) → n + m ≤ count d → (r : Finding) → has r (listedFrom d b n m) ≡ true → Holds d b r
+  holds-from : (m n : ℕ) → n + m ≤ elementCount d → (r : Finding) → has r (listedFrom d b n m) ≡ true → Holds d b r
   unfolding listedFrom has
   holds-from zero n h r e = never (sym e)
   holds-from (suc m) n h r e =
@@ -141,7 +141,7 @@ module _ (d : Draft) (b : ℕ → ℕ → Bool) where
 
   pub listed-holds : (r : Finding) → has r (listed d b) ≡ true → Holds d b r
   unfolding listed
-  listed-holds r e = holds-from (count d) 0 (omega arith) r e
+  listed-holds r e = holds-from (elementCount d) 0 (omega arith) r e
 
   -- what is broken is held
   broken-at : (n p : ℕ) → b n p ≡ true → (m q : ℕ) → q ≤ p → p < q + m → has (finding d n p) (listedAt d b n q m) ≡ true
@@ -179,7 +179,7 @@ module _ (d : Draft) (b : ℕ → ℕ → Bool) where
 
   pub broken-listed : (n p : ℕ) → Judged d n p → b n p ≡ true → has (finding d n p) (listed d b) ≡ true
   unfolding listed
-  broken-listed n p j e = broken-from n p (j .least) (j .most) e (count d) 0 (omega arith) (omega (arith, j .element))
+  broken-listed n p j e = broken-from n p (j .least) (j .most) e (elementCount d) 0 (omega arith) (omega (arith, j .element))
 
   -- the record of a procedure and an element is held exactly when it is broken there
   pub held-exactly : InDocumentOrder d → (n p : ℕ) → Judged d n p → has (finding d n p) (listed d b) ≡ b n p

@@ -7,7 +7,7 @@ use Rattle.text_scan.specs.Choice.{pick}
 use Rattle.list_findings.specs.declared.Finding.{Finding}
 use Rattle.list_findings.specs.Findings.{lastProcedure}
 use Rattle.table_file.specs.Accepted.{Tables}
-use Rattle.judge_draft.specs.Drafts.{Draft, count, first, after}
+use Rattle.judge_draft.specs.Drafts.{Draft, elementCount, first, after}
 use Rattle.judge_header.specs.declared.Header.{Header}
 use Rattle.judge_header.specs.Header.{headerOf}
 use Rattle.judge_procedures.specs.Procedures.{demandOf}
@@ -29,7 +29,7 @@ listedFrom d b n (suc m) = listedAt d b n 1 lastProcedure ++ listedFrom d b (n +
 
 -- of all elements
 unfoldable pub listed : Draft → (ℕ → ℕ → Bool) → List Finding
-listed d b = listedFrom d b 0 (count d)
+listed d b = listedFrom d b 0 (elementCount d)
 
 -- procedure p is broken at element n
 unfoldable pub broken : Draft → Header → Tables → ℕ → ℕ → Bool

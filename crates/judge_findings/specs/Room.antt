@@ -12,15 +12,15 @@ use Rattle.list_findings.specs.Findings.{width, filled}
 use Rattle.judge_findings.specs.declared.Answer.{Answer}
 use Rattle.judge_findings.specs.declared.Answer.the-variants.{Findings, Refused}
 
-abbrev pub hasRoom : List Finding → List ℕ → Bool
-hasRoom found list = leb (length found) (length list / width)
+abbrev pub hasListRoom : List Finding → List ℕ → Bool
+hasListRoom found list = leb (length found) (length list / width)
 
 -- 11: findings needed; otherwise the findings, from the front of the list
 unfoldable pub answerIn : List Finding → List ℕ → Answer
-answerIn found list = pick (hasRoom found list) (Findings (length found)) (Refused 11 (length found))
+answerIn found list = pick (hasListRoom found list) (Findings (length found)) (Refused 11 (length found))
 
 unfoldable pub listIn : List Finding → List ℕ → List ℕ
-listIn found list = pick (hasRoom found list) (filled found list) list
+listIn found list = pick (hasListRoom found list) (filled found list) list
 
 -- what is answered, and what the list then holds
 pub record FindingsLeft (found : List Finding) (list : List ℕ) (answer : Answer) (after : List ℕ) : Type 0 where

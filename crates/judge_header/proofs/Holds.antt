@@ -18,7 +18,7 @@ use Rattle.judge_below.specs.Chosen.{oneHas, onlyKid}
 use Rattle.judge_header.specs.declared.Header.{Header}
 use Rattle.judge_header.specs.declared.Property.{Property}
 use Rattle.judge_header.specs.declared.Property.the-variants.{GuidRoot, OfType, Day, Version}
-use Rattle.judge_header.specs.Header.{headerOf, guidRoot, idHolds, setHolds, registrationCode, requestCode, codeIs, typedCode, hasType, typeOf, dayValue, versionValue, versionHolds, has}
+use Rattle.judge_header.specs.Header.{headerOf, guidRoot, idHolds, setHolds, registrationCode, requestCode, codeIs, typedCode, hasType, typeOf, dayValue, versionValue, versionHolds, hasProperty}
 
 module _ (d : Draft) where
   pub header-is : (a b c e f : Found) → a ≡ onlyKid d 0 Id → b ≡ onlyKid d 0 Code → c ≡ onlyKid d 0 EffectiveTime → e ≡ onlyKid d 0 SetId → f ≡ onlyKid d 0 VersionNumber → record { id = a; code = b; time = c; set = e; version = f } ≡ headerOf d
@@ -65,42 +65,42 @@ module _ (d : Draft) where
 
   -- ---- the properties
   module _ (p : Property) (k : ℕ) where
-    pub guid-is : p ≡ GuidRoot → (r : Bool) → r ≡ isGuid (attribute d k (text "root")) → r ≡ has d p k
-    unfolding has guidRoot
+    pub guid-is : p ≡ GuidRoot → (r : Bool) → r ≡ isGuid (attribute d k (text "root")) → r ≡ hasProperty d p k
+    unfolding hasProperty guidRoot
     guid-is e r f = f ∙ rw e
 
-    pub type-is : p ≡ OfType → (r : Bool) → r ≡ typedCode d k → r ≡ has d p k
-    unfolding has
+    pub type-is : p ≡ OfType → (r : Bool) → r ≡ typedCode d k → r ≡ hasProperty d p k
+    unfolding hasProperty
     type-is e r f = f ∙ rw e
 
-    pub day-is : p ≡ Day → (r : Bool) → r ≡ isDay (attribute d k (text "value")) → r ≡ has d p k
-    unfolding has dayValue
+    pub day-is : p ≡ Day → (r : Bool) → r ≡ isDay (attribute d k (text "value")) → r ≡ hasProperty d p k
+    unfolding hasProperty dayValue
     day-is e r f = f ∙ rw e
 
-    pub version-is : p ≡ Version → (r : Bool) → r ≡ ltb 0 (versionOf (attribute d k (text "value"))) → r ≡ has d p k
-    unfolding has versionValue
+    pub version-is : p ≡ Version → (r : Bool) → r ≡ ltb 0 (versionOf (attribute d k (text "value"))) → r ≡ hasProperty d p k
+    unfolding hasProperty versionValue
     version-is e r f = f ∙ rw e
 
   module _ (p : Property) (x : Found) where
-    pub has-no-one : x ≡ Nothing → false ≡ oneHas x (has d p)
+    pub has-no-one : x ≡ Nothing → false ≡ oneHas x (hasProperty d p)
     has-no-one e = rw e
 
-    pub has-one : (k : ℕ) → x ≡ At k → (r : Bool) → r ≡ has d p k → r ≡ oneHas x (has d p)
+    pub has-one : (k : ℕ) → x ≡ At k → (r : Bool) → r ≡ hasProperty d p k → r ≡ oneHas x (hasProperty d p)
     has-one k e r f = f ∙ rw e
 
   module _ (h : Header) (r : Bool) where
-    pub id-is : r ≡ oneHas (h .id) (has d GuidRoot) → r ≡ idHolds d h
-    unfolding idHolds has
+    pub id-is : r ≡ oneHas (h .id) (hasProperty d GuidRoot) → r ≡ idHolds d h
+    unfolding idHolds hasProperty
     id-is e = e
 
-    pub code-is : r ≡ oneHas (h .code) (has d OfType) → r ≡ hasType d h
-    unfolding hasType has
+    pub code-is : r ≡ oneHas (h .code) (hasProperty d OfType) → r ≡ hasType d h
+    unfolding hasType hasProperty
     code-is e = e
 
-    pub set-is : r ≡ oneHas (h .set) (has d GuidRoot) → r ≡ setHolds d h
-    unfolding setHolds has
+    pub set-is : r ≡ oneHas (h .set) (hasProperty d GuidRoot) → r ≡ setHolds d h
+    unfolding setHolds hasProperty
     set-is e = e
 
-    pub number-is : r ≡ oneHas (h .version) (has d Version) → r ≡ versionHolds d h
-    unfolding versionHolds has
+    pub number-is : r ≡ oneHas (h .version) (hasProperty d Version) → r ≡ versionHolds d h
+    unfolding versionHolds hasProperty
     number-is e = e

@@ -73,8 +73,8 @@ unfoldable pub versionHolds : Draft → Header → Bool
 versionHolds d h = oneHas (h .version) (versionValue d)
 
 -- these properties by the names that the code has for them
-unfoldable pub has : Draft → Property → ℕ → Bool
-has d GuidRoot k = guidRoot d k
-has d OfType k = typedCode d k
-has d Day k = dayValue d k
-has d Version k = versionValue d k
+unfoldable pub hasProperty : Draft → Property → ℕ → Bool
+hasProperty d GuidRoot k = guidRoot d k
+hasProperty d OfType k = typedCode d k
+hasProperty d Day k = dayValue d k
+hasProperty d Version k = versionValue d k

@@ -2,7 +2,7 @@
 ghost use mathlib.Core.Path.{_≡_};
 ghost use Rattle.judge_draft.specs.Drafts.{draft};
 ghost use Rattle.judge_below.specs.Chosen.{one, oneHas, the};
-ghost use Rattle.judge_header.specs.Header.{headerOf, idHolds, setHolds, codeIs, typedCode, hasType, typeOf, versionHolds, has};
+ghost use Rattle.judge_header.specs.Header.{headerOf, idHolds, setHolds, codeIs, typedCode, hasType, typeOf, versionHolds, hasProperty};
 use judge_below::only_kid;
 use judge_draft::Form;
 use judge_draft::attribute_has;
@@ -88,8 +88,8 @@ fn typed_code(document: &[u8], notes: &[u32], k: usize) -> bool
 }
 
 // Whether element k has this property.
-pub fn has(document: &[u8], notes: &[u32], property: Property, k: usize) -> bool
-    ensures { λ r. ⌜ r ≡ has (draft (now (document .entry)) (now (notes .entry))) property k ⌝ }
+pub fn has_property(document: &[u8], notes: &[u32], property: Property, k: usize) -> bool
+    ensures { λ r. ⌜ r ≡ hasProperty (draft (now (document .entry)) (now (notes .entry))) property k ⌝ }
 {
     match property {
         Property::GuidRoot => attribute_has(document, notes, k, b"root", Form::Guid),
@@ -101,11 +101,11 @@ pub fn has(document: &[u8], notes: &[u32], property: Property, k: usize) -> bool
 
 // Whether there is one, and it has this property.
 fn one_has(document: &[u8], notes: &[u32], found: Found, property: Property) -> bool
-    ensures { λ r. ⌜ r ≡ oneHas found (has (draft (now (document .entry)) (now (notes .entry))) property) ⌝ }
+    ensures { λ r. ⌜ r ≡ oneHas found (hasProperty (draft (now (document .entry)) (now (notes .entry))) property) ⌝ }
 {
     match found {
         Found::Nothing => false,
-        Found::At(k) => has(document, notes, property, k),
+        Found::At(k) => has_property(document, notes, property, k),
     }
 }
 

@@ -26,7 +26,7 @@ use Rattle.judge_draft.proofs.Values.{attribute-read}
 use Rattle.judge_header.specs.Header.{requestCode}
 use Rattle.judge_answers.specs.declared.Places.{Places}
 use Rattle.judge_answers.specs.Answers.{typeCode, tablesAt}
-use Rattle.judge_answers.specs.Served.{partOf, CodesServed, NamesServed, KeysServed, Served}
+use Rattle.judge_answers.specs.Served.{runOf, CodesServed, NamesServed, KeysServed, Served}
 use Rattle.judge_lookup.specs.Serving.{isLarge, Sized, Kept, toldAt}
 
 -- ---- when an index is worth it, by the tests of the code
@@ -100,7 +100,7 @@ module _ (d : Draft) (u : List ℕ) (p : Places) (t : DocumentType) (n : ℕ) (r
   unfolding toldAt
   same-tables = rw e
 
-  pub all-served : (x y : List ℕ) → CodesServed u p (partOf x 0) → NamesServed u p (partOf x 1) → Kept 2 x y → KeysServed (typeCode t) (attribute d n (text "root")) u p (partOf y 2) → Served d u r y
+  pub all-served : (x y : List ℕ) → CodesServed u p (runOf x 0) → NamesServed u p (runOf x 1) → Kept 2 x y → KeysServed (typeCode t) (attribute d n (text "root")) u p (runOf y 2) → Served d u r y
   unfolding toldAt
   all-served x y a b k l =
       rw e
@@ -112,5 +112,5 @@ module _ (d : Draft) (u : List ℕ) (p : Places) (t : DocumentType) (n : ℕ) (r
       })
 
 -- the code list stays served where the register is indexed
-pub codes-stay : (u : List ℕ) (p : Places) (x y : List ℕ) → CodesServed u p (partOf x 0) → Kept 1 x y → CodesServed u p (partOf y 0)
+pub codes-stay : (u : List ℕ) (p : Places) (x y : List ℕ) → CodesServed u p (runOf x 0) → Kept 1 x y → CodesServed u p (runOf y 0)
 codes-stay u p x y l k = rw (k .part 0 (λ z. absurd (omega arith))) l

@@ -12,7 +12,7 @@ use lib.Seq.{take-at, drop-at, take-append-le, drop-append-le, drop-append-add, 
 use Rattle.table_index.specs.declared.Lookup.{Lookup}
 use Rattle.table_lines.specs.Lines.{Row}
 use Rattle.table_index.specs.Indexed.{Indexed, Serves}
-use Rattle.judge_answers.specs.Served.{room, partOf}
+use Rattle.judge_answers.specs.Served.{room, runOf}
 use Rattle.judge_lookup.specs.Serving.{Kept}
 
 -- ---- the parts of fs ++ ms ++ bs, where ms is the part of number i
@@ -75,12 +75,12 @@ module _ (x : List ℕ) (i : ℕ) (k : i < 3) (h : 3 * room ≤ length x) where
     long : 3 * room ≤ length (replaced x i ys)
     long = rw same-length h
 
-    own : partOf (replaced x i ys) i ≡ ys
-    unfolding partOf
+    own : runOf (replaced x i ys) i ≡ ys
+    unfolding runOf
     own = rw (le-leb (3 * room) (length (replaced x i ys)) long, wide) (own-part (take (i * room) x) ys (drop room (drop (i * room) x)) i front fits)
 
     pub others-kept : Kept i x (replaced x i ys)
-    unfolding partOf
+    unfolding runOf
     others-kept =
         record {
           part = λ j d.
@@ -89,5 +89,5 @@ module _ (x : List ℕ) (i : ℕ) (k : i < 3) (h : 3 * room ≤ length x) where
               ∙ rw (← whole));
         }
 
-    pub part-served : (q : Lookup) (keeps : Row → Bool) (s : List ℕ) (at count : ℕ) → Indexed q keeps s at count ys → Serves q keeps s at count (partOf (replaced x i ys) i)
+    pub part-served : (q : Lookup) (keeps : Row → Bool) (s : List ℕ) (at count : ℕ) → Indexed q keeps s at count ys → Serves q keeps s at count (runOf (replaced x i ys) i)
     part-served q keeps s at count g = record { index = λ _. rw own g }

@@ -16,7 +16,7 @@ use Rattle.judge_paths.specs.Attributes.{isRole}
 use Rattle.judge_draft.specs.Drafts.{Draft, attribute}
 use Rattle.judge_header.specs.Header.{requestCode}
 use Rattle.judge_answers.specs.declared.Places.{Places}
-use Rattle.judge_answers.specs.Served.{partOf}
+use Rattle.judge_answers.specs.Served.{runOf}
 
 -- the roles whose elements can ask for a row: codes, and the ids and names of organisations. Of all others only the id, the setId and the version
 -- ask, once for a document each
@@ -50,7 +50,7 @@ Fitting s count x = (count < length x) × (count ≤ rowsLimit) × (length s ≤
 
 -- all parts but that of number i are left as they were
 pub record Kept (i : ℕ) (x y : List ℕ) : Type 0 where
-  pub part : (j : ℕ) → (j ≡ i → ⊥) → partOf y j ≡ partOf x j
+  pub part : (j : ℕ) → (j ≡ i → ⊥) → runOf y j ≡ runOf x j
 
 -- the places, with the type and the keys of the set id of element `set`
 unfoldable pub toldAt : Draft → List ℕ → Places → DocumentType → ℕ → Places

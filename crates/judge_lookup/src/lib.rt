@@ -8,7 +8,7 @@ ghost use Rattle.table_index.specs.Indexed.{keepsRow, Serves};
 ghost use Rattle.judge_paths.specs.Attributes.{isRole};
 ghost use Rattle.judge_draft.specs.Drafts.{draft, attribute};
 ghost use Rattle.judge_answers.specs.Answers.{typeCode, tablesAt};
-ghost use Rattle.judge_answers.specs.Served.{room, partOf, CodesServed, NamesServed, KeysServed, Served};
+ghost use Rattle.judge_answers.specs.Served.{room, runOf, CodesServed, NamesServed, KeysServed, Served};
 ghost use Rattle.judge_lookup.specs.Serving.{askingRoles, asking, isLarge, Fitting, Kept, toldAt};
 use judge_answers::Places;
 use judge_answers::SIZE;
@@ -87,7 +87,7 @@ fn fill_part(
     i: usize,
 )
     requires { ⌜ (i < 3) × (3 * room ≤ length (now index)) × Fitting (now tables) count (now index) ⌝ }
-    ensures { λ _. ⌜ Serves q (keepsRow q (now (a .entry)) (now (c .entry))) (now (tables .entry)) from count (partOf (now (index .exit)) i) × Kept i (now (index .entry)) (now (index .exit)) ⌝ }
+    ensures { λ _. ⌜ Serves q (keepsRow q (now (a .entry)) (now (c .entry))) (now (tables .entry)) from count (runOf (now (index .exit)) i) × Kept i (now (index .entry)) (now (index .exit)) ⌝ }
 {
     let start = i * SIZE;
     let end = start + SIZE;
@@ -97,7 +97,7 @@ fn fill_part(
 // Indexes the code list and the register.
 fn serve_rows(tables: &[u8], places: Places, index: &mut [u32])
     requires { ⌜ (3 * room ≤ length (now index)) × Fitting (now tables) (places .ncodes) (now index) × Fitting (now tables) (places .nnames) (now index) ⌝ }
-    ensures { λ _. ⌜ CodesServed (now (tables .entry)) places (partOf (now (index .exit)) 0) × NamesServed (now (tables .entry)) places (partOf (now (index .exit)) 1) ⌝ }
+    ensures { λ _. ⌜ CodesServed (now (tables .entry)) places (runOf (now (index .exit)) 0) × NamesServed (now (tables .entry)) places (runOf (now (index .exit)) 1) ⌝ }
 {
     fill_part(
         Lookup::Code,
@@ -132,7 +132,7 @@ fn fill_keys_of(
     index: &mut [u32],
 )
     requires { ⌜ (3 * room ≤ length (now index)) × Fitting (now tables) (places .nhistory) (now index) ⌝ }
-    ensures { λ _. ⌜ KeysServed (now (code .entry)) (attribute (draft (now (document .entry)) (now (notes .entry))) set (text "root")) (now (tables .entry)) places (partOf (now (index .exit)) 2) × Kept 2 (now (index .entry)) (now (index .exit)) ⌝ }
+    ensures { λ _. ⌜ KeysServed (now (code .entry)) (attribute (draft (now (document .entry)) (now (notes .entry))) set (text "root")) (now (tables .entry)) places (runOf (now (index .exit)) 2) × Kept 2 (now (index .entry)) (now (index .exit)) ⌝ }
 {
     let mut room = [0u8; Reader::VALUE];
     let at = first_byte(document, notes, set);
@@ -160,7 +160,7 @@ fn fill_keys(
     index: &mut [u32],
 )
     requires { ⌜ (3 * room ≤ length (now index)) × Fitting (now tables) (places .nhistory) (now index) ⌝ }
-    ensures { λ _. ⌜ KeysServed (typeCode kind) (attribute (draft (now (document .entry)) (now (notes .entry))) set (text "root")) (now (tables .entry)) places (partOf (now (index .exit)) 2) × Kept 2 (now (index .entry)) (now (index .exit)) ⌝ }
+    ensures { λ _. ⌜ KeysServed (typeCode kind) (attribute (draft (now (document .entry)) (now (notes .entry))) set (text "root")) (now (tables .entry)) places (runOf (now (index .exit)) 2) × Kept 2 (now (index .entry)) (now (index .exit)) ⌝ }
 {
     match kind {
         DocumentType::Neither => fill_keys_of(document, notes, tables, places, b"", set, index),

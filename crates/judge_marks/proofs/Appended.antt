@@ -5,10 +5,10 @@ use mathlib.Core.Bool.{Bool, true, false}
 use mathlib.Core.List.{List, [], _∷_, _++_}
 use Prim.Native.Nat.{ℕ, zero, suc, _+_, _-_, _*_, _/_, _%_, _<_, _≤_, _^_}
 use native.Mathlib.Omega.{arith}
-use borrow.Author.Tests.{lt-ltb, le-ltb, lt-leb, eq-eqb, ne-eqb}
+use borrow.Author.Tests.{lt-ltb, le-ltb, le-leb, lt-leb, eq-eqb, ne-eqb}
 use lib.Dec.{ltb, eqb, leb}
-use lib.ListN.{length, drop, getD, set, length-append, drop-of-length-le}
-use lib.Seq.{sets, length-sets}
+use lib.ListN.{length, take, drop, getD, set, length-append, drop-of-length-le}
+use lib.Seq.{sets, length-sets, getD-take, length-take-le}
 use mir.Val.{Fits}
 use mir.Syntax.{w64}
 use Rattle.text_scan.specs.Choice.{pick}
@@ -21,7 +21,9 @@ use Rattle.list_writer.specs.Listed.{listAfter, countAfter}
 use Rattle.judge_draft.specs.Drafts.{Draft, draft, role}
 use Rattle.judge_procedures.specs.Procedures.{askedAt}
 use Rattle.judge_findings.specs.Listed.{finding}
-use Rattle.judge_marks.specs.Marks.{pushed, ones, most, marked, askedRow, markedAt, markedFrom}
+use Rattle.judge_findings.specs.declared.Answer.the-variants.{Findings, Refused}
+use Rattle.judge_findings.specs.Room.{answerIn, listIn, FindingsLeft}
+use Rattle.judge_marks.specs.Marks.{pushed, ones, most, marked, askedRow, markedAt, markedFrom, markedIn}
 use Rattle.judge_marks.proofs.Told.{no-ones, nothing-marked}
 use Rattle.judge_marks.proofs.Table.{padded-length}
 
@@ -236,3 +238,44 @@ module _ (d : Draft) (marks before : List ℕ) where
             room = omega (arith, l .room, many, e, ap length f, length-sets list (count * width) (flat rs));
             long = ap length f ∙ (length-sets list (count * width) (flat rs) ∙ l .long);
           }
+
+-- the same of the marks in the front of a run, and of the answer
+module _ (s notes marks before : List ℕ) where
+  pub record Writing (list : List ℕ) (n count : ℕ) : Type 0 where
+    pub to-write : ToWrite (draft s notes) (take (length notes / 4) marks) before list n count
+
+  pub writing-start : length (markedIn s notes marks) ≤ length before / width → Writing before 0 0
+  unfolding markedIn
+  writing-start h = record { to-write = towrite-start (draft s notes) (take (length notes / 4) marks) before h }
+
+  module _ (room : length notes / 4 ≤ length marks) (list : List ℕ) (n count : ℕ) (l : Writing list n count) where
+    pub writing-over : length notes / 4 ≤ n → length (markedIn s notes marks) ≤ length before / width → list ≡ filled (markedIn s notes marks) before
+    unfolding markedIn
+    writing-over h g = towrite-over (draft s notes) (take (length notes / 4) marks) before list n count (l .to-write) (omega (arith, length-take-le (length notes / 4) marks room)) g
+
+    module _ (h : n < length notes / 4) where
+      at : getD (take (length notes / 4) marks) n 0 ≡ getD marks n 0
+      at = getD-take (length notes / 4) marks n 0 h
+
+      inside : n < length (take (length notes / 4) marks)
+      inside = omega (arith, length-take-le (length notes / 4) marks room)
+
+      pub writing-room : count + length (markedAt (draft s notes) n (getD marks n 0)) ≤ length list / width
+      writing-room = rw (← at) (towrite-room (draft s notes) (take (length notes / 4) marks) before list n count (l .to-write) inside)
+
+      pub writing-next : (after : List ℕ) (c : ℕ) → c ≡ count + length (markedAt (draft s notes) n (getD marks n 0)) → after ≡ sets list (count * width) (flat (markedAt (draft s notes) n (getD marks n 0))) → Writing after (n + 1) c
+      writing-next after c e f =
+          record { to-write = towrite-next (draft s notes) (take (length notes / 4) marks) before list n count (l .to-write) inside after c (e ∙ rw at) (f ∙ rw at) }
+
+module _ (found : List Finding) (list : List ℕ) (total : ℕ) (e : total ≡ length found) where
+  pub too-many : length list / width < total → FindingsLeft found list (Refused 11 total) list
+  unfolding answerIn listIn
+  too-many g =
+      let f = lt-leb total (length list / width) g in
+      record { answers = rw (← e, f); lists = rw (← e, f) }
+
+  pub all-written : total ≤ length list / width → (after : List ℕ) → after ≡ filled found list → FindingsLeft found list (Findings total) after
+  unfolding answerIn listIn
+  all-written g after h =
+      let f = le-leb total (length list / width) g in
+      record { answers = rw (← e, f); lists = h ∙ rw (← e, f) }

@@ -15,7 +15,7 @@ use Rattle.list_findings.specs.Findings.{lastProcedure}
 use Rattle.judge_draft.specs.Drafts.{Draft, role}
 use Rattle.judge_procedures.specs.Procedures.{foundAt, keep, askedFrom, askedAt}
 use Rattle.judge_findings.specs.Listed.{finding, listedAt, listedFrom}
-use Rattle.judge_marks.specs.Marks.{digit, pushed, markBy, markOf, marksOf, ones, most, marked, padded, askedRow, markedAt, markedFrom}
+use Rattle.judge_marks.specs.Marks.{bit, pushed, markBy, markOf, marksOf, ones, most, marked, padded, askedRow, markedAt, markedFrom}
 use Rattle.judge_marks.proofs.Table.{asked-few, padded-length}
 
 -- numbers of at most k digits are below this
@@ -38,15 +38,15 @@ few-digits k h =
     let e : 61 - k + k ≡ 61 = omega arith in
     rw e at (rises (61 - k) k)
 
-digit-small : (b : Bool) → digit b ≤ 1
+digit-small : (b : Bool) → bit b ≤ 1
 digit-small true = omega arith
 digit-small false = omega arith
 
-pushed-is : (m : ℕ) (b : Bool) → m < 4611686018427387904 → pushed m b ≡ 2 * m + digit b
+pushed-is : (m : ℕ) (b : Bool) → m < 4611686018427387904 → pushed m b ≡ 2 * m + bit b
 unfolding pushed
 pushed-is m b h = rw (lt-ltb m 4611686018427387904 h)
 
-is-one : (t : Bool) → eqb (digit t) 1 ≡ t
+is-one : (t : Bool) → eqb (bit t) 1 ≡ t
 is-one true = refl
 is-one false = refl
 
@@ -77,7 +77,7 @@ module _ (b : ℕ → ℕ → Bool) (n : ℕ) where
       omega (arith, e, digit-small (b n p))
 
   module _ (p : ℕ) (ps : List ℕ) (h : length (p ∷ ps) ≤ 61) where
-    by-is : markBy b n (p ∷ ps) ≡ 2 * markBy b n ps + digit (b n p)
+    by-is : markBy b n (p ∷ ps) ≡ 2 * markBy b n ps + bit (b n p)
     unfolding markBy
     by-is =
         let i = small ps (omega arith) in
@@ -85,7 +85,7 @@ module _ (b : ℕ → ℕ → Bool) (n : ℕ) where
         pushed-is (markBy b n ps) (b n p) (omega arith)
 
     -- the lowest digit, and the others
-    lowest : markBy b n (p ∷ ps) % 2 ≡ digit (b n p)
+    lowest : markBy b n (p ∷ ps) % 2 ≡ bit (b n p)
     lowest = omega (arith, by-is, digit-small (b n p))
 
     others : markBy b n (p ∷ ps) / 2 ≡ markBy b n ps

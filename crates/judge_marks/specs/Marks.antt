@@ -5,19 +5,20 @@ use Prim.Native.Nat.{ℕ, zero, suc, _+_, _*_, _/_, _%_}
 use mathlib.Core.Bool.{Bool, true, false}
 use mathlib.Core.List.{List, [], _∷_, _++_}
 use lib.Dec.{ltb, eqb}
+use lib.ListN.{length, take}
 use Rattle.text_scan.specs.Choice.{pick}
 use Rattle.list_findings.specs.declared.Finding.{Finding}
-use Rattle.judge_draft.specs.Drafts.{Draft, role}
+use Rattle.judge_draft.specs.Drafts.{Draft, draft, role}
 use Rattle.judge_procedures.specs.Procedures.{askedAt}
 use Rattle.judge_findings.specs.Listed.{finding}
 
-abbrev pub digit : Bool → ℕ
-digit true = 1
-digit false = 0
+abbrev pub bit : Bool → ℕ
+bit true = 1
+bit false = 0
 
 -- a digit more, below the others; a number has room for 63
 unfoldable pub pushed : ℕ → Bool → ℕ
-pushed m b = pick (ltb m 4611686018427387904) (2 * m + digit b) 0
+pushed m b = pick (ltb m 4611686018427387904) (2 * m + bit b) 0
 
 -- the digits of these procedures
 unfoldable pub markBy : (ℕ → ℕ → Bool) → ℕ → List ℕ → ℕ
@@ -63,3 +64,7 @@ markedAt d n m = marked d n (askedRow (role d n)) m
 unfoldable pub markedFrom : Draft → ℕ → List ℕ → List Finding
 markedFrom d n [] = []
 markedFrom d n (m ∷ ms) = markedAt d n m ++ markedFrom d (n + 1) ms
+
+-- of all elements, whose marks stand in the front of a run
+unfoldable pub markedIn : List ℕ → List ℕ → List ℕ → List Finding
+markedIn s notes marks = markedFrom (draft s notes) 0 (take (length notes / 4) marks)

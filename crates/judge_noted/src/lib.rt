@@ -15,7 +15,7 @@ use judge_answers::SIZE;
 use judge_findings::Answer;
 use judge_header::Header;
 
-// Marks each element, and writes the list where there is room for it.
+// Marks each element, and answers by the marks.
 fn judge_served(
     document: &[u8],
     notes: &[u32],
@@ -30,12 +30,7 @@ fn judge_served(
     ensures { λ r. ⌜ FindingsLeft (findingsOf (draft (now (document .entry)) (now (notes .entry))) (tablesAt (now (tables .entry)) places)) (now (list .entry)) r (now (list .exit)) ⌝ }
 {
     let total = judge_asking::fill(document, notes, header, tables, places, index, marks);
-    if list.len() / list_findings::WIDTH < total {
-        return Answer::Refused(11, total);
-    }
-    let count = notes.len() / 4;
-    judge_marks::write(document, notes, &marks[0..count], list);
-    Answer::Findings(total)
+    judge_marks::answer(document, notes, marks, total, list)
 }
 
 // The same, with the rows of the tables indexed before, in a run that is lent.

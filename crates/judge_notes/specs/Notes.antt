@@ -5,7 +5,7 @@ use mathlib.Core.List.{List, [], _∷_, _++_}
 use lib.Dec.{leb}
 use lib.ListN.{length, drop}
 use Rattle.text_scan.specs.Choice.{pick}
-use Rattle.xml_steps.specs.Reading.{row, parentOf, firstOf, afterOf}
+use Rattle.xml_steps.specs.Reading.{elementRow, parentOf, firstOf, afterOf}
 use Rattle.judge_paths.specs.declared.DocumentType.{DocumentType}
 use Rattle.judge_paths.specs.Paths.{roleOf}
 
@@ -13,7 +13,7 @@ use Rattle.judge_paths.specs.Paths.{roleOf}
 unfoldable pub notesFrom : List ℕ → List ℕ → DocumentType → ℕ → ℕ → List ℕ
 notesFrom s rows t k zero = []
 notesFrom s rows t k (suc m) =
-    row (roleOf s rows t k) (parentOf rows k) (firstOf rows k) (afterOf rows k) ++ notesFrom s rows t (k + 1) m
+    elementRow (roleOf s rows t k) (parentOf rows k) (firstOf rows k) (afterOf rows k) ++ notesFrom s rows t (k + 1) m
 
 -- of all elements, each of which has a row of four numbers
 unfoldable pub notesOf : List ℕ → List ℕ → DocumentType → List ℕ

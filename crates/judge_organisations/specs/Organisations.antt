@@ -7,7 +7,7 @@ use lib.ListN.{length}
 use Rattle.text_scan.specs.Choice.{pick, _or_, _and_, not, between}
 use Rattle.text_scan.specs.Bytes.{text}
 use Rattle.text_scan.specs.declared.Found.{Found}
-use Rattle.judge_paths.specs.Roles.{Unknown, Entity1, Labeler, Entity2, Registrant, Entity3, Establishment, Entity4, Agent, OrganisationId, OrganisationName, RequestEntity, RequestLabeler, isKnown}
+use Rattle.judge_paths.specs.Roles.{Unknown, Entity1, Labeler, Entity2, Registrant, Entity3, Establishment, Entity4, Agent, OrganisationId, OrganisationName, RequestEntity, RequestLabeler, isKnownRole}
 use Rattle.judge_draft.specs.declared.Demand.{Demand}
 use Rattle.judge_draft.specs.declared.Demand.the-variants.{NameRow}
 use Rattle.judge_draft.specs.Drafts.{Draft, role, parent, is, attribute, said, isEmpty}
@@ -24,7 +24,7 @@ organisationIn r =
     (pick (eqb r Entity2) Registrant (pick (eqb r Entity3) Establishment (pick (eqb r Entity4) Agent Unknown))))
 
 unfoldable pub breaks14 : Draft → ℕ → Bool
-breaks14 d n = isKnown (organisationIn (role d n)) and not (one (onlyKid d n (organisationIn (role d n))))
+breaks14 d n = isKnownRole (organisationIn (role d n)) and not (one (onlyKid d n (organisationIn (role d n))))
 
 -- ---- ids
 -- an organisation that 15 to 18 judge

@@ -14,7 +14,7 @@ use Rattle.xml_names.specs.Names.{nameEnd}
 use Rattle.xml_steps.specs.Reading.{parentOf, firstOf}
 use Rattle.judge_paths.specs.declared.DocumentType.{DocumentType}
 use Rattle.judge_paths.specs.Roles.{Unknown, Root}
-use Rattle.judge_paths.specs.Paths.{childRole, hasRow, nameOf, roleWithin, roleOf}
+use Rattle.judge_paths.specs.Paths.{childRole, hasRow, elementName, roleWithin, roleOf}
 
 -- ---- the row of an element
 module _ (s rows : List ℕ) (n : ℕ) where
@@ -57,17 +57,17 @@ module _ (s rows : List ℕ) (n : ℕ) (b : Bool) (e : b ≡ hasRow s rows n) (f
   parent-falls p m q g = omega (arith, parent-earlier s rows n has-row)
 
 -- the name behind the first byte
-pub name-below : (s rows : List ℕ) (n : ℕ) (kind : DocumentType) (parent r : ℕ) (f e : ℕ) → f ≡ getD rows (4 * n + 2) 0 → e ≡ nameEnd s (f + 1) → r ≡ childRole kind parent (take (e - (f + 1)) (drop (f + 1) s)) → r ≡ childRole kind parent (nameOf s rows n)
+pub name-below : (s rows : List ℕ) (n : ℕ) (kind : DocumentType) (parent r : ℕ) (f e : ℕ) → f ≡ getD rows (4 * n + 2) 0 → e ≡ nameEnd s (f + 1) → r ≡ childRole kind parent (take (e - (f + 1)) (drop (f + 1) s)) → r ≡ childRole kind parent (elementName s rows n)
 name-below s rows n kind parent r f e q g h = rw (← q, ← g) h
 
 -- ---- a higher bound changes nothing, so the role of an element is told by its parent's role
 module _ (s rows : List ℕ) (t : DocumentType) where
   -- what is told of the parent's role is the same where the parent's role is, if there is a row
-  by-row : (n : ℕ) (a b : ℕ) → (hasRow s rows n ≡ true → a ≡ b) → pick (hasRow s rows n) (childRole t a (nameOf s rows n)) Unknown ≡ pick (hasRow s rows n) (childRole t b (nameOf s rows n)) Unknown
+  by-row : (n : ℕ) (a b : ℕ) → (hasRow s rows n ≡ true → a ≡ b) → pick (hasRow s rows n) (childRole t a (elementName s rows n)) Unknown ≡ pick (hasRow s rows n) (childRole t b (elementName s rows n)) Unknown
   by-row n a b f = go (hasRow s rows n) f
     where
-      go : (h : Bool) → (h ≡ true → a ≡ b) → pick h (childRole t a (nameOf s rows n)) Unknown ≡ pick h (childRole t b (nameOf s rows n)) Unknown
-      go true f = ap (λ (r : ℕ). childRole t r (nameOf s rows n)) (f refl)
+      go : (h : Bool) → (h ≡ true → a ≡ b) → pick h (childRole t a (elementName s rows n)) Unknown ≡ pick h (childRole t b (elementName s rows n)) Unknown
+      go true f = ap (λ (r : ℕ). childRole t r (elementName s rows n)) (f refl)
       go false f = refl
 
   pub enough : (k j n : ℕ) → n ≤ k → n ≤ j → roleWithin s rows t k n ≡ roleWithin s rows t j n
@@ -87,7 +87,7 @@ module _ (s rows : List ℕ) (t : DocumentType) where
   role-root zero e = refl
   role-root (suc n) e = absurd (omega arith)
 
-  pub role-told : (n : ℕ) → (n ≡ 0 → ⊥) → roleOf s rows t n ≡ pick (hasRow s rows n) (childRole t (roleOf s rows t (parentOf rows n)) (nameOf s rows n)) Unknown
+  pub role-told : (n : ℕ) → (n ≡ 0 → ⊥) → roleOf s rows t n ≡ pick (hasRow s rows n) (childRole t (roleOf s rows t (parentOf rows n)) (elementName s rows n)) Unknown
   unfolding roleOf roleWithin
   role-told zero z = absurd (z refl)
   role-told (suc n) z =
@@ -98,5 +98,5 @@ module _ (s rows : List ℕ) (t : DocumentType) where
     pub role-none : b ≡ false → Unknown ≡ roleOf s rows t n
     role-none f = sym (role-told n z ∙ rw (← e, f))
 
-    pub role-child : b ≡ true → (p : ℕ) → p ≡ getD rows (4 * n + 1) 0 → (a r : ℕ) → a ≡ roleOf s rows t p → r ≡ childRole t a (nameOf s rows n) → r ≡ roleOf s rows t n
+    pub role-child : b ≡ true → (p : ℕ) → p ≡ getD rows (4 * n + 1) 0 → (a r : ℕ) → a ≡ roleOf s rows t p → r ≡ childRole t a (elementName s rows n) → r ≡ roleOf s rows t n
     role-child f p g a r h q = sym (role-told n z ∙ rw (← e, f, ← g, ← h, ← q))

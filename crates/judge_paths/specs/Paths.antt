@@ -14,7 +14,7 @@ use Rattle.xml_names.specs.Names.{nameAt}
 use Rattle.xml_steps.specs.Reading.{parentOf, firstOf}
 use Rattle.judge_paths.specs.declared.DocumentType.{DocumentType}
 use Rattle.judge_paths.specs.declared.DocumentType.the-variants.{Neither, Registration, Request}
-use Rattle.judge_paths.specs.Roles.{Unknown, Unlisted, Root, Id, Code, Title, Br, EffectiveTime, SetId, VersionNumber, Author, Component, StructuredBody, Time, Entity1, Labeler, Entity2, Registrant, Entity3, Establishment, Entity4, Agent, OrganisationId, OrganisationName, ContactParty, ContactPerson, PersonName, Addr, StreetAddressLine, City, State, PostalCode, Country, Telecom, Performance, ActDefinition, OperationCode, RequestEntity, RequestLabeler, isKnown}
+use Rattle.judge_paths.specs.Roles.{Unknown, Unlisted, Root, Id, Code, Title, Br, EffectiveTime, SetId, VersionNumber, Author, Component, StructuredBody, Time, Entity1, Labeler, Entity2, Registrant, Entity3, Establishment, Entity4, Agent, OrganisationId, OrganisationName, ContactParty, ContactPerson, PersonName, Addr, StreetAddressLine, City, State, PostalCode, Country, Telecom, Performance, ActDefinition, OperationCode, RequestEntity, RequestLabeler, isKnownRole}
 
 -- the document types for which a row of the table holds
 pub data Types : Type 0 where
@@ -36,120 +36,120 @@ fits request Registration = false
 fits request Request = true
 
 -- a parent lists an element of this name, which is then known as `child`
-pub record Row : Type 0 where
+pub record KnownRow : Type 0 where
   pub types : Types
   pub parent : ℕ
   pub name : List ℕ
   pub child : ℕ
 
-abbrev pub row : Types → ℕ → String → ℕ → Row
-row types parent name child = record { types = types; parent = parent; name = text name; child = child }
+abbrev pub known : Types → ℕ → String → ℕ → KnownRow
+known types parent name child = record { types = types; parent = parent; name = text name; child = child }
 
 -- outside author, and directly in it
-abbrev pub upperTable : List Row
+abbrev pub upperTable : List KnownRow
 upperTable =
-    row any Root "id" Id
-    ∷ row any Root "code" Code
-    ∷ row any Root "title" Title
-    ∷ row any Root "effectiveTime" EffectiveTime
-    ∷ row any Root "setId" SetId
-    ∷ row any Root "versionNumber" VersionNumber
-    ∷ row any Root "author" Author
-    ∷ row any Root "component" Component
-    ∷ row any Title "br" Br
-    ∷ row any Component "structuredBody" StructuredBody
-    ∷ row either Author "time" Time
-    ∷ row registration Author "assignedEntity" Entity1
-    ∷ row request Author "assignedEntity" RequestEntity
+    known any Root "id" Id
+    ∷ known any Root "code" Code
+    ∷ known any Root "title" Title
+    ∷ known any Root "effectiveTime" EffectiveTime
+    ∷ known any Root "setId" SetId
+    ∷ known any Root "versionNumber" VersionNumber
+    ∷ known any Root "author" Author
+    ∷ known any Root "component" Component
+    ∷ known any Title "br" Br
+    ∷ known any Component "structuredBody" StructuredBody
+    ∷ known either Author "time" Time
+    ∷ known registration Author "assignedEntity" Entity1
+    ∷ known request Author "assignedEntity" RequestEntity
     ∷ []
 
 -- labelers
-abbrev pub labelerTable : List Row
+abbrev pub labelerTable : List KnownRow
 labelerTable =
-    row any RequestEntity "representedOrganization" RequestLabeler
-    ∷ row any RequestLabeler "id" OrganisationId
-    ∷ row any RequestLabeler "name" OrganisationName
-    ∷ row any RequestLabeler "contactParty" ContactParty
-    ∷ row any Entity1 "representedOrganization" Labeler
-    ∷ row any Labeler "id" OrganisationId
-    ∷ row any Labeler "name" OrganisationName
-    ∷ row any Labeler "assignedEntity" Entity2
+    known any RequestEntity "representedOrganization" RequestLabeler
+    ∷ known any RequestLabeler "id" OrganisationId
+    ∷ known any RequestLabeler "name" OrganisationName
+    ∷ known any RequestLabeler "contactParty" ContactParty
+    ∷ known any Entity1 "representedOrganization" Labeler
+    ∷ known any Labeler "id" OrganisationId
+    ∷ known any Labeler "name" OrganisationName
+    ∷ known any Labeler "assignedEntity" Entity2
     ∷ []
 
 -- the organisations below
-abbrev pub organisationTable : List Row
+abbrev pub organisationTable : List KnownRow
 organisationTable =
-    row any Registrant "id" OrganisationId
-    ∷ row any Registrant "name" OrganisationName
-    ∷ row any Registrant "contactParty" ContactParty
-    ∷ row any Registrant "assignedEntity" Entity3
-    ∷ row any Establishment "id" OrganisationId
-    ∷ row any Establishment "name" OrganisationName
-    ∷ row any Establishment "contactParty" ContactParty
-    ∷ row any Establishment "assignedEntity" Entity4
-    ∷ row any Establishment "addr" Addr
-    ∷ row any Agent "id" OrganisationId
-    ∷ row any Agent "name" OrganisationName
-    ∷ row any Agent "telecom" Telecom
+    known any Registrant "id" OrganisationId
+    ∷ known any Registrant "name" OrganisationName
+    ∷ known any Registrant "contactParty" ContactParty
+    ∷ known any Registrant "assignedEntity" Entity3
+    ∷ known any Establishment "id" OrganisationId
+    ∷ known any Establishment "name" OrganisationName
+    ∷ known any Establishment "contactParty" ContactParty
+    ∷ known any Establishment "assignedEntity" Entity4
+    ∷ known any Establishment "addr" Addr
+    ∷ known any Agent "id" OrganisationId
+    ∷ known any Agent "name" OrganisationName
+    ∷ known any Agent "telecom" Telecom
     ∷ []
 
 -- the entities that hold them
-abbrev pub entityTable : List Row
+abbrev pub entityTable : List KnownRow
 entityTable =
-    row any Entity2 "assignedOrganization" Registrant
-    ∷ row any Entity3 "assignedOrganization" Establishment
-    ∷ row any Entity3 "performance" Performance
-    ∷ row any Entity4 "assignedOrganization" Agent
-    ∷ row any Entity4 "performance" Performance
-    ∷ row any Performance "actDefinition" ActDefinition
-    ∷ row any ActDefinition "code" OperationCode
+    known any Entity2 "assignedOrganization" Registrant
+    ∷ known any Entity3 "assignedOrganization" Establishment
+    ∷ known any Entity3 "performance" Performance
+    ∷ known any Entity4 "assignedOrganization" Agent
+    ∷ known any Entity4 "performance" Performance
+    ∷ known any Performance "actDefinition" ActDefinition
+    ∷ known any ActDefinition "code" OperationCode
     ∷ []
 
 -- contacts and addresses
-abbrev pub contactTable : List Row
+abbrev pub contactTable : List KnownRow
 contactTable =
-    row any ContactParty "addr" Addr
-    ∷ row any ContactParty "telecom" Telecom
-    ∷ row any ContactParty "contactPerson" ContactPerson
-    ∷ row any ContactPerson "name" PersonName
-    ∷ row any Addr "streetAddressLine" StreetAddressLine
-    ∷ row any Addr "city" City
-    ∷ row any Addr "state" State
-    ∷ row any Addr "postalCode" PostalCode
-    ∷ row any Addr "country" Country
+    known any ContactParty "addr" Addr
+    ∷ known any ContactParty "telecom" Telecom
+    ∷ known any ContactParty "contactPerson" ContactPerson
+    ∷ known any ContactPerson "name" PersonName
+    ∷ known any Addr "streetAddressLine" StreetAddressLine
+    ∷ known any Addr "city" City
+    ∷ known any Addr "state" State
+    ∷ known any Addr "postalCode" PostalCode
+    ∷ known any Addr "country" Country
     ∷ []
 
-abbrev pub table : List Row
+abbrev pub table : List KnownRow
 table = contactTable ++ entityTable ++ organisationTable ++ labelerTable ++ upperTable
 
 -- the child of this name, of the rows of this parent in a document of this type
-unfoldable pub named : DocumentType → ℕ → List ℕ → List Row → ℕ
-named t parent name [] = Unlisted
-named t parent name (x ∷ xs) =
-    pick (eqb (x .parent) parent and fits (x .types) t and equal name (x .name)) (x .child) (named t parent name xs)
+unfoldable pub roleNamed : DocumentType → ℕ → List ℕ → List KnownRow → ℕ
+roleNamed t parent name [] = Unlisted
+roleNamed t parent name (x ∷ xs) =
+    pick (eqb (x .parent) parent and fits (x .types) t and equal name (x .name)) (x .child) (roleNamed t parent name xs)
 
 -- the children of a known element are judged; those of author in the two types only
 abbrev pub isJudged : DocumentType → ℕ → Bool
-isJudged t parent = isKnown parent and (not (eqb parent Author) or fits either t)
+isJudged t parent = isKnownRole parent and (not (eqb parent Author) or fits either t)
 
 -- the role of an element of this name inside a parent of that role
 unfoldable pub childRole : DocumentType → ℕ → List ℕ → ℕ
-childRole t parent name = pick (isJudged t parent) (named t parent name table) Unknown
+childRole t parent name = pick (isJudged t parent) (roleNamed t parent name table) Unknown
 
 -- element n has a row in the table, its parent stands earlier, and its first byte stands in the document
 abbrev pub hasRow : List ℕ → List ℕ → ℕ → Bool
 hasRow s rows n = ltb n (length rows / 4) and ltb (parentOf rows n) n and ltb (firstOf rows n) (length s)
 
 -- the name of element n stands behind its first byte
-abbrev pub nameOf : List ℕ → List ℕ → ℕ → List ℕ
-nameOf s rows n = nameAt s (firstOf rows n + 1)
+abbrev pub elementName : List ℕ → List ℕ → ℕ → List ℕ
+elementName s rows n = nameAt s (firstOf rows n + 1)
 
 -- the role of element n, which is at most k: number 0 is the root, and any other is told by its parent
 unfoldable pub roleWithin : List ℕ → List ℕ → DocumentType → ℕ → ℕ → ℕ
 roleWithin s rows t zero n = Root
 roleWithin s rows t (suc k) n =
     pick (eqb n 0) Root
-    (pick (hasRow s rows n) (childRole t (roleWithin s rows t k (parentOf rows n)) (nameOf s rows n)) Unknown)
+    (pick (hasRow s rows n) (childRole t (roleWithin s rows t k (parentOf rows n)) (elementName s rows n)) Unknown)
 
 -- the role of element n
 unfoldable pub roleOf : List ℕ → List ℕ → DocumentType → ℕ → ℕ

@@ -124,5 +124,6 @@ RequestEntity = 37
 abbrev pub RequestLabeler : ℕ
 RequestLabeler = 38
 
-abbrev pub isKnown : ℕ → Bool
-isKnown r = ltb 1 r
+-- all but the first two
+abbrev pub isKnownRole : ℕ → Bool
+isKnownRole r = ltb Unlisted r

@@ -3,7 +3,7 @@ ghost use mathlib.Core.Path.{_≡_};
 ghost use mathlib.Core.Bool.{true};
 ghost use Prim.Native.Nat.{_+_, _*_, _/_, _^_, _<_};
 ghost use lib.ListN.{length, getD};
-ghost use Rattle.judge_paths.specs.Paths.{upperTable, labelerTable, organisationTable, entityTable, contactTable, table, named, isJudged, childRole, hasRow, nameOf, roleOf};
+ghost use Rattle.judge_paths.specs.Paths.{upperTable, labelerTable, organisationTable, entityTable, contactTable, table, roleNamed, isJudged, childRole, hasRow, elementName, roleOf};
 ghost use Rattle.judge_paths.specs.Roles.{Author};
 ghost use Rattle.judge_paths.specs.Words.{wordEnd, childIn};
 
@@ -52,7 +52,7 @@ fn child_in(name: &[u8], words: &[u8], roles: &[u32]) -> u32
 
 // The children of author: in a document without a type they are not asked for.
 fn in_author(kind: DocumentType, name: &[u8]) -> u32
-    ensures { λ r. ⌜ r ≡ named kind Author (now (name .entry)) upperTable ⌝ }
+    ensures { λ r. ⌜ r ≡ roleNamed kind Author (now (name .entry)) upperTable ⌝ }
 {
     match kind {
         DocumentType::Neither => role::UNLISTED,
@@ -69,7 +69,7 @@ fn in_author(kind: DocumentType, name: &[u8]) -> u32
 
 // The children of the root, a title, a component or author.
 fn in_upper(kind: DocumentType, parent: u32, name: &[u8]) -> u32
-    ensures { λ r. ⌜ r ≡ named kind parent (now (name .entry)) upperTable ⌝ }
+    ensures { λ r. ⌜ r ≡ roleNamed kind parent (now (name .entry)) upperTable ⌝ }
 {
     if parent == role::ROOT {
         return child_in(
@@ -101,7 +101,7 @@ fn in_upper(kind: DocumentType, parent: u32, name: &[u8]) -> u32
 
 // The children of a labeler, of an assignedEntity above it or in it.
 fn in_labeler(parent: u32, name: &[u8]) -> u32
-    ensures { λ r. ⌜ r ≡ named DocumentType.Neither parent (now (name .entry)) labelerTable ⌝ }
+    ensures { λ r. ⌜ r ≡ roleNamed DocumentType.Neither parent (now (name .entry)) labelerTable ⌝ }
 {
     if parent == role::REQUEST_ENTITY {
         return child_in(name, b"representedOrganization ", &[role::REQUEST_LABELER]);
@@ -136,7 +136,7 @@ fn in_labeler(parent: u32, name: &[u8]) -> u32
 
 // The children of a registrant, an establishment or an agent.
 fn in_organisation(parent: u32, name: &[u8]) -> u32
-    ensures { λ r. ⌜ r ≡ named DocumentType.Neither parent (now (name .entry)) organisationTable ⌝ }
+    ensures { λ r. ⌜ r ≡ roleNamed DocumentType.Neither parent (now (name .entry)) organisationTable ⌝ }
 {
     if parent == role::REGISTRANT {
         return child_in(
@@ -179,7 +179,7 @@ fn in_organisation(parent: u32, name: &[u8]) -> u32
 
 // The children of a lower assignedEntity, and of a performance in it.
 fn in_entity(parent: u32, name: &[u8]) -> u32
-    ensures { λ r. ⌜ r ≡ named DocumentType.Neither parent (now (name .entry)) entityTable ⌝ }
+    ensures { λ r. ⌜ r ≡ roleNamed DocumentType.Neither parent (now (name .entry)) entityTable ⌝ }
 {
     if parent == role::ENTITY_2 {
         return child_in(name, b"assignedOrganization ", &[role::REGISTRANT]);
@@ -209,7 +209,7 @@ fn in_entity(parent: u32, name: &[u8]) -> u32
 
 // The children of a contactParty, a contactPerson or an addr.
 fn in_contact(parent: u32, name: &[u8]) -> u32
-    ensures { λ r. ⌜ r ≡ named DocumentType.Neither parent (now (name .entry)) contactTable ⌝ }
+    ensures { λ r. ⌜ r ≡ roleNamed DocumentType.Neither parent (now (name .entry)) contactTable ⌝ }
 {
     if parent == role::CONTACT_PARTY {
         return child_in(
@@ -239,7 +239,7 @@ fn in_contact(parent: u32, name: &[u8]) -> u32
 
 // The role of a child of this name, by what the parent lists.
 fn child_named(kind: DocumentType, parent: u32, name: &[u8]) -> u32
-    ensures { λ r. ⌜ r ≡ named kind parent (now (name .entry)) table ⌝ }
+    ensures { λ r. ⌜ r ≡ roleNamed kind parent (now (name .entry)) table ⌝ }
 {
     let contact = in_contact(parent, name);
     if contact != role::UNLISTED {
@@ -311,7 +311,7 @@ fn has_row(document: &[u8], elements: &[u32], n: usize) -> bool
 // The role of element n in a parent of that role.
 fn role_below(document: &[u8], elements: &[u32], n: usize, kind: DocumentType, parent: u32) -> u32
     requires { ⌜ hasRow (now document) (now elements) n ≡ true ⌝ }
-    ensures { λ r. ⌜ r ≡ childRole kind parent (nameOf (now (document .entry)) (now (elements .entry)) n) ⌝ }
+    ensures { λ r. ⌜ r ≡ childRole kind parent (elementName (now (document .entry)) (now (elements .entry)) n) ⌝ }
 {
     let start = row_number(elements, n, 2) + 1;
     let end = xml_names::name_end(document, start);

@@ -8,7 +8,7 @@ use lib.Dec.{eqb}
 use Rattle.text_scan.specs.Choice.{pick, _or_}
 use Rattle.text_scan.proofs.Tests.{or-left, or-right}
 use Rattle.judge_paths.specs.Roles.{Addr, Agent, Code, ContactParty, EffectiveTime, Entity1, Entity2, Entity3, Entity4, Establishment, Id, Labeler, OperationCode, OrganisationId, OrganisationName, Registrant, RequestEntity, RequestLabeler, Root, SetId, Telecom, Unlisted, VersionNumber}
-use Rattle.judge_paths.specs.Roles.{isKnown as isKnownRole}
+use Rattle.judge_paths.specs.Roles.{isKnownRole}
 use Rattle.judge_paths.specs.Attributes.{isRole}
 use Rattle.judge_draft.specs.declared.Demand.{Demand}
 use Rattle.judge_draft.specs.declared.Demand.the-variants.{Nothing}
@@ -21,7 +21,8 @@ use Rattle.judge_organisations.specs.Organisations.{organisationIn, isOrganisat
 use Rattle.judge_keys.specs.Keys.{isLabelerId, isRegistrantId, breaks19, breaks20, demand21, demand22}
 use Rattle.judge_addresses.specs.Addresses.{breaks24, breaks25}
 use Rattle.judge_contacts.specs.Contacts.{hasContact, hasTelecoms, breaks23, breaks26, breaks27, breaks28, breaks29, breaks30}
-use Rattle.judge_registrations.specs.Registrations.{hasEstablishment, breaks31, breaks32, breaks33, demand34, breaks35, breaks36, breaks37, breaks38}
+use Rattle.judge_operations.specs.Operations.{hasEstablishment, breaks33, demand34, breaks37, breaks38}
+use Rattle.judge_registrations.specs.Registrations.{breaks31, breaks32, breaks35, breaks36}
 use Rattle.judge_procedures.specs.Procedures.{Procedure, procedures, numbered, demandIn, demandOf, foundAt}
 
 -- the element's role is none of these

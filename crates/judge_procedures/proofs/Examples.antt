@@ -12,9 +12,9 @@ use Rattle.text_numbers.specs.Days.{isDay}
 use Rattle.xml_names.specs.Names.{nameEnd, nameIs}
 use Rattle.xml_names.specs.Values.{opened, equalsAt}
 use Rattle.xml_names.specs.ElementNames.{elementEnd}
-use Rattle.xml_attributes.specs.Rows.{items, ending, row, rowFrom}
+use Rattle.xml_attributes.specs.Chains.{items, ending, chain, chainFrom}
 use Rattle.xml_attributes.specs.Attributes.{attributeTo}
-use Rattle.xml_attributes.specs.Parts.{partTo, pieceAt, attributes, someAttribute}
+use Rattle.xml_attributes.specs.Parts.{partTo, tagPieceAt, attributes, someAttribute}
 use Rattle.xml_values.specs.Attributes.{nameAfter, firstNamed, attributePlace, hasOther, isListed, isOther}
 use Rattle.judge_paths.specs.Roles.{Root}
 use Rattle.judge_paths.specs.Attributes.{listedNames}
@@ -29,7 +29,8 @@ use Rattle.judge_organisations.specs.Organisations.{organisationIn, isOrganisat
 use Rattle.judge_keys.specs.Keys.{labelerId, labelerHolds, isLabelerId, isRegistrantId, breaks19, breaks20, demand21, demand22}
 use Rattle.judge_addresses.specs.Addresses.{oneSaid, linesSaid, isAddress, addressHolds, isUsa, breaks24, breaks25}
 use Rattle.judge_contacts.specs.Contacts.{hasContact, contactHolds, hasTelecoms, personHolds, breaks23, breaks26, breaks27, breaks28, breaks29, breaks30}
-use Rattle.judge_registrations.specs.Registrations.{ofNci, isAgency, inUsa, hasEstablishment, breaks31, breaks32, breaks33, demand34, breaks35, breaks36, breaks37, breaks38}
+use Rattle.judge_operations.specs.Operations.{ofNci, isAgency, hasEstablishment, breaks33, demand34, breaks37, breaks38}
+use Rattle.judge_registrations.specs.Registrations.{inUsa, breaks31, breaks32, breaks35, breaks36}
 use Rattle.judge_draft.specs.Demands.{brokenIf}
 use Rattle.judge_header.specs.declared.Header.{Header}
 use Rattle.list_findings.specs.Findings.{lastProcedure}
@@ -44,7 +45,7 @@ demands (x ∷ xs) = x .asks smallest (headerOf smallest) 0 ∷ demands xs
 
 -- 1, 5, 7, 9, 10 and 11 are broken, and no table is asked
 whole : demands procedures ≡ Broken ∷ Nothing ∷ Nothing ∷ Nothing ∷ Broken ∷ Nothing ∷ Broken ∷ Nothing ∷ Broken ∷ Broken ∷ Broken ∷ Nothing ∷ Nothing ∷ Nothing ∷ Nothing ∷ Nothing ∷ Nothing ∷ Nothing ∷ Nothing ∷ Nothing ∷ Nothing ∷ Nothing ∷ Nothing ∷ Nothing ∷ Nothing ∷ Nothing ∷ Nothing ∷ Nothing ∷ Nothing ∷ Nothing ∷ Nothing ∷ Nothing ∷ Nothing ∷ Nothing ∷ Nothing ∷ Nothing ∷ Nothing ∷ Nothing ∷ []
-unfolding demands every pairs begins runEnd walk from equal withoutSpace isGuid versionOf isDay nameEnd opened equalsAt elementEnd nameIs items ending row rowFrom attributeTo partTo pieceAt attributes someAttribute nameAfter firstNamed attributePlace hasOther isListed isOther draft is isKnown attribute said passes ancestor placed wants within chosenFrom chosen listedNames otherThan isNamedDocument isDeclared hasSchema rootIsRight guidRoot idHolds setHolds codeIs typedCode hasType dayValue versionValue versionHolds oneAt oneOfRoot headerOf breaks1 breaks2 breaks3 breaks4 breaks5 demand6 breaks7 demand8 breaks9 breaks10 breaks11 demand12 breaks13 organisationIn isOrganisation rightIds dunsId labelerId hasExtension dunsHolds isSaid nameHolds isOneName labelerHolds isLabelerId isRegistrantId breaks14 breaks15 breaks16 breaks17 demand18 breaks19 breaks20 demand21 demand22 hasContact contactHolds oneSaid linesSaid isAddress addressHolds isUsa hasTelecoms personHolds breaks23 breaks24 breaks25 breaks26 breaks27 breaks28 breaks29 breaks30 ofNci isAgency inUsa hasEstablishment breaks31 breaks32 breaks33 demand34 breaks35 breaks36 breaks37 breaks38
+unfolding demands every pairs begins runEnd walk from equal withoutSpace isGuid versionOf isDay nameEnd opened equalsAt elementEnd nameIs items ending chain chainFrom attributeTo partTo tagPieceAt attributes someAttribute nameAfter firstNamed attributePlace hasOther isListed isOther draft is isKnown attribute said passes ancestor placed wants within chosenFrom chosen listedNames otherThan isNamedDocument isDeclared hasSchema rootIsRight guidRoot idHolds setHolds codeIs typedCode hasType dayValue versionValue versionHolds oneAt oneOfRoot headerOf breaks1 breaks2 breaks3 breaks4 breaks5 demand6 breaks7 demand8 breaks9 breaks10 breaks11 demand12 breaks13 organisationIn isOrganisation rightIds dunsId labelerId hasExtension dunsHolds isSaid nameHolds isOneName labelerHolds isLabelerId isRegistrantId breaks14 breaks15 breaks16 breaks17 demand18 breaks19 breaks20 demand21 demand22 hasContact contactHolds oneSaid linesSaid isAddress addressHolds isUsa hasTelecoms personHolds breaks23 breaks24 breaks25 breaks26 breaks27 breaks28 breaks29 breaks30 ofNci isAgency inUsa hasEstablishment breaks31 breaks32 breaks33 demand34 breaks35 breaks36 breaks37 breaks38
 whole = refl
 
 -- each stands under its number

@@ -7,7 +7,7 @@ use mathlib.Core.List.{List, [], _∷_, _++_}
 use lib.Dec.{eqb}
 use Rattle.text_scan.specs.Choice.{pick}
 use Rattle.list_findings.specs.Findings.{lastProcedure}
-use Rattle.judge_paths.specs.Roles.{Unlisted, Root, Id, Code, EffectiveTime, SetId, VersionNumber, Entity1, Labeler, Entity2, Registrant, Entity3, Establishment, Entity4, Agent, OrganisationId, OrganisationName, ContactParty, Addr, Telecom, OperationCode, RequestEntity, RequestLabeler, isKnown}
+use Rattle.judge_paths.specs.Roles.{Unlisted, Root, Id, Code, EffectiveTime, SetId, VersionNumber, Entity1, Labeler, Entity2, Registrant, Entity3, Establishment, Entity4, Agent, OrganisationId, OrganisationName, ContactParty, Addr, Telecom, OperationCode, RequestEntity, RequestLabeler, isKnownRole}
 use Rattle.judge_paths.specs.Attributes.{isRole}
 use Rattle.judge_draft.specs.declared.Demand.{Demand}
 use Rattle.judge_draft.specs.declared.Demand.the-variants.{Nothing}
@@ -20,15 +20,16 @@ use Rattle.judge_organisations.specs.Organisations.{breaks14, breaks15, breaks1
 use Rattle.judge_keys.specs.Keys.{breaks19, breaks20, demand21, demand22}
 use Rattle.judge_addresses.specs.Addresses.{breaks24, breaks25}
 use Rattle.judge_contacts.specs.Contacts.{breaks23, breaks26, breaks27, breaks28, breaks29, breaks30}
-use Rattle.judge_registrations.specs.Registrations.{breaks31, breaks32, breaks33, demand34, breaks35, breaks36, breaks37, breaks38}
+use Rattle.judge_operations.specs.Operations.{breaks33, demand34, breaks37, breaks38}
+use Rattle.judge_registrations.specs.Registrations.{breaks31, breaks32, breaks35, breaks36}
 
 pub record Procedure : Type 0 where
   pub number : ℕ
   pub place : ℕ → Bool
   pub asks : Draft → Header → ℕ → Demand
 
-abbrev pub row : ℕ → (ℕ → Bool) → (Draft → Header → ℕ → Demand) → Procedure
-row number place asks = record { number = number; place = place; asks = asks }
+abbrev pub procedure : ℕ → (ℕ → Bool) → (Draft → Header → ℕ → Demand) → Procedure
+procedure number place asks = record { number = number; place = place; asks = asks }
 
 -- at elements of these roles
 abbrev pub at : List ℕ → ℕ → Bool
@@ -49,86 +50,86 @@ rowOf f d h n = f d n
 abbrev pub listedProcedures : List Procedure
 listedProcedures =
     -- the root is named document and declares the three names of the schema
-    row 1 (at (Root ∷ [])) (ofElement breaks1)
+    procedure 1 (at (Root ∷ [])) (ofElement breaks1)
     -- every element in a known one is listed there
-    ∷ row 2 (at (Unlisted ∷ [])) (ofElement breaks2)
+    ∷ procedure 2 (at (Unlisted ∷ [])) (ofElement breaks2)
     -- a known element has listed attributes only
-    ∷ row 3 isKnown (ofElement breaks3)
+    ∷ procedure 3 isKnownRole (ofElement breaks3)
     -- a code and an extension have no space
-    ∷ row 4 isKnown (ofElement breaks4)
+    ∷ procedure 4 isKnownRole (ofElement breaks4)
     ∷ []
 
 -- ---- the header
 abbrev pub headerProcedures : List Procedure
 headerProcedures =
     -- one id, its root a GUID; which no row of the history has as document id
-    row 5 (at (Root ∷ Id ∷ [])) (ofHeader breaks5)
-    ∷ row 6 (at (Id ∷ [])) demand6
+    procedure 5 (at (Root ∷ Id ∷ [])) (ofHeader breaks5)
+    ∷ procedure 6 (at (Id ∷ [])) demand6
     -- one code, of one of the two types; which the code list has with its display name
-    ∷ row 7 (at (Root ∷ Code ∷ [])) (ofHeader breaks7)
-    ∷ row 8 (at (Code ∷ [])) demand8
+    ∷ procedure 7 (at (Root ∷ Code ∷ [])) (ofHeader breaks7)
+    ∷ procedure 8 (at (Code ∷ [])) demand8
     -- one effectiveTime, a day
-    ∷ row 9 (at (Root ∷ EffectiveTime ∷ [])) (ofHeader breaks9)
+    ∷ procedure 9 (at (Root ∷ EffectiveTime ∷ [])) (ofHeader breaks9)
     -- one setId, its root a GUID; one versionNumber; above all versions of the set id in the history
-    ∷ row 10 (at (Root ∷ SetId ∷ [])) (ofHeader breaks10)
-    ∷ row 11 (at (Root ∷ VersionNumber ∷ [])) (ofHeader breaks11)
-    ∷ row 12 (at (VersionNumber ∷ [])) demand12
+    ∷ procedure 10 (at (Root ∷ SetId ∷ [])) (ofHeader breaks10)
+    ∷ procedure 11 (at (Root ∷ VersionNumber ∷ [])) (ofHeader breaks11)
+    ∷ procedure 12 (at (VersionNumber ∷ [])) demand12
     -- a document of a type has one labeler
-    ∷ row 13 (at (Root ∷ [])) (ofHeader breaks13)
+    ∷ procedure 13 (at (Root ∷ [])) (ofHeader breaks13)
     ∷ []
 
 -- ---- organisations
 abbrev pub organisationProcedures : List Procedure
 organisationProcedures =
     -- each assignedEntity has one organisation
-    row 14 (at (RequestEntity ∷ Entity1 ∷ Entity2 ∷ Entity3 ∷ Entity4 ∷ [])) (ofElement breaks14)
+    procedure 14 (at (RequestEntity ∷ Entity1 ∷ Entity2 ∷ Entity3 ∷ Entity4 ∷ [])) (ofElement breaks14)
     -- as many ids as the organisation has; one of them its DUNS number
-    ∷ row 15 (at (RequestLabeler ∷ Registrant ∷ Establishment ∷ Agent ∷ [])) (ofElement breaks15)
-    ∷ row 16 (at (RequestLabeler ∷ Registrant ∷ Establishment ∷ Agent ∷ [])) (ofElement breaks16)
+    ∷ procedure 15 (at (RequestLabeler ∷ Registrant ∷ Establishment ∷ Agent ∷ [])) (ofElement breaks15)
+    ∷ procedure 16 (at (RequestLabeler ∷ Registrant ∷ Establishment ∷ Agent ∷ [])) (ofElement breaks16)
     -- one name; the register has the two
-    ∷ row 17 (at (RequestLabeler ∷ Registrant ∷ Establishment ∷ Agent ∷ OrganisationName ∷ [])) (ofElement breaks17)
-    ∷ row 18 (at (OrganisationName ∷ [])) (rowOf demand18)
+    ∷ procedure 17 (at (RequestLabeler ∷ Registrant ∷ Establishment ∷ Agent ∷ OrganisationName ∷ [])) (ofElement breaks17)
+    ∷ procedure 18 (at (OrganisationName ∷ [])) (rowOf demand18)
     -- one labeler code in a request; in its form
-    ∷ row 19 (at (RequestLabeler ∷ [])) (ofElement breaks19)
-    ∷ row 20 (at (OrganisationId ∷ [])) (ofElement breaks20)
+    ∷ procedure 19 (at (RequestLabeler ∷ [])) (ofElement breaks19)
+    ∷ procedure 20 (at (OrganisationId ∷ [])) (ofElement breaks20)
     -- no row of this type has the key under another set id; none of this set id has another labeler code
-    ∷ row 21 (at (OrganisationId ∷ [])) demand21
-    ∷ row 22 (at (OrganisationId ∷ [])) demand22
+    ∷ procedure 21 (at (OrganisationId ∷ [])) demand21
+    ∷ procedure 22 (at (OrganisationId ∷ [])) demand22
     ∷ []
 
 -- ---- contacts
 abbrev pub contactProcedures : List Procedure
 contactProcedures =
     -- one contactParty
-    row 23 (at (RequestLabeler ∷ Registrant ∷ Establishment ∷ [])) (ofElement breaks23)
+    procedure 23 (at (RequestLabeler ∷ Registrant ∷ Establishment ∷ [])) (ofElement breaks23)
     -- one whole address; with state and postal code in the USA
-    ∷ row 24 (at (ContactParty ∷ Establishment ∷ [])) (ofElement breaks24)
-    ∷ row 25 (at (Addr ∷ [])) (ofElement breaks25)
+    ∷ procedure 24 (at (ContactParty ∷ Establishment ∷ [])) (ofElement breaks24)
+    ∷ procedure 25 (at (Addr ∷ [])) (ofElement breaks25)
     -- two telecoms; a telephone; a mail address; a telephone in its form
-    ∷ row 26 (at (ContactParty ∷ Agent ∷ [])) (ofElement breaks26)
-    ∷ row 27 (at (ContactParty ∷ Agent ∷ [])) (ofElement breaks27)
-    ∷ row 28 (at (ContactParty ∷ Agent ∷ [])) (ofElement breaks28)
-    ∷ row 29 (at (Telecom ∷ [])) (ofElement breaks29)
+    ∷ procedure 26 (at (ContactParty ∷ Agent ∷ [])) (ofElement breaks26)
+    ∷ procedure 27 (at (ContactParty ∷ Agent ∷ [])) (ofElement breaks27)
+    ∷ procedure 28 (at (ContactParty ∷ Agent ∷ [])) (ofElement breaks28)
+    ∷ procedure 29 (at (Telecom ∷ [])) (ofElement breaks29)
     -- one contactPerson with one name
-    ∷ row 30 (at (ContactParty ∷ [])) (ofElement breaks30)
+    ∷ procedure 30 (at (ContactParty ∷ [])) (ofElement breaks30)
     ∷ []
 
 -- ---- registrations
 abbrev pub registrationProcedures : List Procedure
 registrationProcedures =
     -- one registrant; an establishment
-    row 31 (at (Labeler ∷ [])) (ofElement breaks31)
-    ∷ row 32 (at (Registrant ∷ [])) (ofElement breaks32)
+    procedure 31 (at (Labeler ∷ [])) (ofElement breaks31)
+    ∷ procedure 32 (at (Registrant ∷ [])) (ofElement breaks32)
     -- an agent's or importer's entity has the one operation code of the two
-    ∷ row 33 (at (Entity4 ∷ [])) (ofElement breaks33)
+    ∷ procedure 33 (at (Entity4 ∷ [])) (ofElement breaks33)
     -- the code list has each operation code
-    ∷ row 34 (at (OperationCode ∷ [])) (rowOf demand34)
+    ∷ procedure 34 (at (OperationCode ∷ [])) (rowOf demand34)
     -- an establishment abroad has an agent; one in the USA neither agent nor importer
-    ∷ row 35 (at (Establishment ∷ [])) (ofElement breaks35)
-    ∷ row 36 (at (Establishment ∷ [])) (ofElement breaks36)
+    ∷ procedure 35 (at (Establishment ∷ [])) (ofElement breaks35)
+    ∷ procedure 36 (at (Establishment ∷ [])) (ofElement breaks36)
     -- an establishment's entity has an operation code; of the NCI system
-    ∷ row 37 (at (Entity3 ∷ [])) (ofElement breaks37)
-    ∷ row 38 (at (OperationCode ∷ [])) (ofElement breaks38)
+    ∷ procedure 37 (at (Entity3 ∷ [])) (ofElement breaks37)
+    ∷ procedure 38 (at (OperationCode ∷ [])) (ofElement breaks38)
     ∷ []
 
 abbrev pub procedures : List Procedure
@@ -137,7 +138,7 @@ procedures =
 
 -- ---- by their numbers
 abbrev pub noProcedure : Procedure
-noProcedure = row 0 (λ r. false) (λ d h n. Nothing)
+noProcedure = procedure 0 (λ r. false) (λ d h n. Nothing)
 
 unfoldable pub numbered : ℕ → List Procedure → Procedure
 numbered p [] = noProcedure

@@ -3,7 +3,7 @@ ghost use mathlib.Core.Path.{_≡_};
 ghost use Rattle.judge_draft.specs.Drafts.{draft};
 ghost use Rattle.judge_draft.specs.Demands.{brokenIf};
 ghost use Rattle.judge_listed.specs.Listed.{breaks3};
-ghost use Rattle.judge_registrations.specs.Registrations.{hasEstablishment};
+ghost use Rattle.judge_operations.specs.Operations.{hasEstablishment};
 ghost use Rattle.judge_procedures.specs.Procedures.{listedProcedures, headerProcedures, organisationProcedures, contactProcedures, registrationProcedures, demandIn, demandOf};
 use judge_draft::Demand;
 use judge_header::Header;
@@ -115,12 +115,12 @@ fn of_registrations(
     match p {
         31 => broken_if(judge_registrations::breaks_31(document, notes, n)),
         32 => broken_if(judge_registrations::breaks_32(document, notes, n)),
-        33 => broken_if(judge_registrations::breaks_33(document, notes, n)),
-        34 => judge_registrations::demand_34(document, notes, n),
+        33 => broken_if(judge_operations::breaks_33(document, notes, n)),
+        34 => judge_operations::demand_34(document, notes, n),
         35 => broken_if(judge_registrations::breaks_35(document, notes, n)),
         36 => broken_if(judge_registrations::breaks_36(document, notes, n)),
-        37 => broken_if(judge_registrations::breaks_37(document, notes, n)),
-        38 => broken_if(judge_registrations::breaks_38(document, notes, met.entity, met.held, n)),
+        37 => broken_if(judge_operations::breaks_37(document, notes, n)),
+        38 => broken_if(judge_operations::breaks_38(document, notes, met.entity, met.held, n)),
         _ => Demand::Nothing,
     }
 }

@@ -34,7 +34,8 @@ use Rattle.judge_keys.specs.Keys.{isLabelerId, isRegistrantId, breaks19, breaks
 use Rattle.judge_paths.specs.declared.DocumentType.the-variants.{Registration, Request}
 use Rattle.judge_addresses.specs.Addresses.{breaks24, breaks25}
 use Rattle.judge_contacts.specs.Contacts.{breaks23, breaks26, breaks27, breaks28, breaks29, breaks30}
-use Rattle.judge_registrations.specs.Registrations.{breaks31, breaks32, breaks33, demand34, breaks35, breaks36, breaks37, breaks38}
+use Rattle.judge_operations.specs.Operations.{breaks33, demand34, breaks37, breaks38}
+use Rattle.judge_registrations.specs.Registrations.{breaks31, breaks32, breaks35, breaks36}
 use Rattle.judge_procedures.specs.Procedures.{Procedure, procedures, numbered, demandIn, demandOf}
 use Rattle.judge_answers.specs.Answers.{typeCode, isBroken}
 use Rattle.judge_promises.specs.Suits.{suits, asksNoTable, wantsRow, forbidsRow}

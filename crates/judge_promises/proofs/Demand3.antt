@@ -11,14 +11,14 @@ use Rattle.text_scan.specs.declared.Found.the-variants.{Nothing}
 use Rattle.list_findings.specs.declared.Finding.{Finding}
 use Rattle.list_findings.specs.declared.Merged.the-variants.{Findings as MergedFindings}
 use Rattle.list_findings.specs.Findings.{width, flat, filled}
-use Rattle.list_findings.specs.Merge.{Merging as Merging, firstBad, merged, firstFault, mergeOf}
+use Rattle.list_findings.specs.Merge.{Merging as Merging, firstBadRecord, merged, firstFault, mergeOf}
 use Rattle.list_findings.proofs.Records.{records-flat, length-flat}
 use Rattle.table_file.specs.Accepted.{tablesOf}
 use Rattle.table_join.specs.Joins.{Joins}
 use Rattle.xml_steps.specs.Reading.{elements}
 use Rattle.xml_elements.specs.Elements.{elementsOf}
 use Rattle.judge_findings.specs.declared.Answer.the-variants.{Findings}
-use Rattle.judge_document.specs.Drafted.{draftOf}
+use Rattle.judge_type.specs.Drafted.{draftOf}
 use Rattle.judge_check.specs.Check.{checkOf}
 use Rattle.judge_check.specs.Accepted.{foundIn, Accepted}
 use Rattle.judge_both.specs.Both.{asAnswer, merging, bothOf}
@@ -38,7 +38,7 @@ same-rows i j x y e = cc
 
 -- ---- a list of the check is never refused by the merge with another list of the same document: 12 and 13 cannot come
 module _ (s : List ℕ) (k : ℕ) (rows : List ℕ) (e : elementsOf s ≡ elements k rows) where
-  pub never-12 : (a : List ℕ) → firstBad (flat (foundIn s rows a)) ≡ Nothing
+  pub never-12 : (a : List ℕ) → firstBadRecord (flat (foundIn s rows a)) ≡ Nothing
   unfolding foundIn
   never-12 a = never-bad (draftOf s rows) (in-order s k rows e) (tablesOf a)
 

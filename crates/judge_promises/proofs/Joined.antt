@@ -9,11 +9,11 @@ use Rattle.text_scan.specs.declared.Found.the-variants.{Nothing}
 use Rattle.list_findings.specs.declared.Class.the-variants.{DocumentOnly}
 use Rattle.list_findings.specs.Findings.{classOf, flat}
 use Rattle.list_findings.specs.Lists.{Good, stays}
-use Rattle.list_findings.specs.Merge.{firstBad, merged, firstFault}
+use Rattle.list_findings.specs.Merge.{firstBadRecord, merged, firstFault}
 use Rattle.list_findings.proofs.Good.{good-flat}
 use Rattle.table_file.specs.Accepted.{Tables, tablesOf}
 use Rattle.table_join.specs.Joins.{Joins}
-use Rattle.judge_draft.specs.Drafts.{Draft, count}
+use Rattle.judge_draft.specs.Drafts.{Draft, elementCount}
 use Rattle.judge_header.specs.declared.Header.{Header}
 use Rattle.judge_header.specs.Header.{headerOf}
 use Rattle.judge_procedures.specs.Procedures.{demandOf}
@@ -35,7 +35,7 @@ module _ (d : Draft) (i : InDocumentOrder d) where
   findings-good t = listed-good d (broken d (headerOf d) t) i
 
   -- refusal 12 never comes
-  pub never-bad : (t : Tables) → firstBad (flat (findingsOf d t)) ≡ Nothing
+  pub never-bad : (t : Tables) → firstBadRecord (flat (findingsOf d t)) ≡ Nothing
   never-bad t = good-flat (findingsOf d t) (findings-good t)
 
   -- what asks no table is found under both files or under neither, so that refusal 13 never comes, whatever the two files are
@@ -43,7 +43,7 @@ module _ (d : Draft) (i : InDocumentOrder d) where
   unfolding findingsOf
   never-faulty t u =
       rw (these-listed d ft fu fv (λ x. x .first) ft (λ n p. refl), these-listed d ft fu fv (λ x. x .second) fu (λ n p. refl)) at
-      (together classOf (marksFrom d ft fu fv 0 (count d)) (marks-ordered d ft fu fv i) (marks-right d ft fu fv classOf alike) .faultless)
+      (together classOf (marksFrom d ft fu fv 0 (elementCount d)) (marks-ordered d ft fu fv i) (marks-right d ft fu fv classOf alike) .faultless)
     where
       ft : ℕ → ℕ → Bool
       ft = broken d (headerOf d) t
@@ -70,7 +70,7 @@ module _ (d : Draft) (i : InDocumentOrder d) where
     unfolding findingsOf
     agreed =
         rw (these-listed d fa fb fc (λ x. x .first) fa (λ n p. refl), these-listed d fa fb fc (λ x. x .second) fb (λ n p. refl), these-listed d fa fb fc (λ x. x .joined) fc (λ n p. refl)) at
-        (together classOf (marksFrom d fa fb fc 0 (count d)) (marks-ordered d fa fb fc i) (marks-right d fa fb fc classOf marked))
+        (together classOf (marksFrom d fa fb fc 0 (elementCount d)) (marks-ordered d fa fb fc i) (marks-right d fa fb fc classOf marked))
       where
         fa : ℕ → ℕ → Bool
         fa = broken d (headerOf d) (tablesOf a)

@@ -1,2 +1,1 @@
 pub mod Registrations
-pub mod Met

@@ -1,44 +1,20 @@
--- Procedures 31 to 38 (document 01, "Registration"). An entity's operation codes are the codes in its performances: an act definition and a
--- performance stand between.
+-- Procedures 31, 32, 35 and 36 (document 01, "Registration").
 -- Assumes nothing.
 use Prim.Native.Nat.{ℕ}
 use mathlib.Core.Bool.{Bool}
-use mathlib.Core.List.{List}
-use Rattle.text_scan.specs.Choice.{_or_, _and_, not}
-use Rattle.text_scan.specs.Bytes.{text}
-use Rattle.judge_paths.specs.Roles.{Labeler, Registrant, Entity3, Establishment, Entity4, Addr, OperationCode}
-use Rattle.judge_draft.specs.declared.Demand.{Demand}
-use Rattle.judge_draft.specs.declared.Demand.the-variants.{CodeRow}
+use Rattle.text_scan.specs.Choice.{_and_, not}
+use Rattle.judge_paths.specs.Roles.{Labeler, Registrant, Establishment, Addr, OperationCode}
 use Rattle.judge_below.specs.declared.Test.the-variants.{Any, Agent, Import}
-use Rattle.judge_draft.specs.Drafts.{Draft, is, isEmpty, attributeIs}
-use Rattle.judge_below.specs.Chosen.{agentCode, importCode, ancestor, chosen, wanted, kids, onlyOne, one, oneHas, onlyKid}
-use Rattle.judge_draft.specs.Demands.{demandIf}
+use Rattle.judge_draft.specs.Drafts.{Draft, is, isEmpty}
+use Rattle.judge_below.specs.Chosen.{chosen, wanted, onlyOne, one, oneHas, onlyKid}
 use Rattle.judge_addresses.specs.Addresses.{addressHolds, isUsa}
 
--- ---- 31 and 32: of registrations. An organisation stands two levels below the one above it
+-- ---- 31 and 32: an organisation stands two levels below the one above it
 unfoldable pub breaks31 : Draft → ℕ → Bool
 breaks31 d n = is d Labeler n and not (one (onlyOne (chosen d (wanted Registrant 2 Any) n)))
 
 unfoldable pub breaks32 : Draft → ℕ → Bool
 breaks32 d n = is d Registrant n and isEmpty (chosen d (wanted Establishment 2 Any) n)
-
--- ---- operation codes
-abbrev pub operations : Draft → ℕ → List ℕ
-operations d n = chosen d (wanted OperationCode 3 Any) n
-
-unfoldable pub ofNci : Draft → ℕ → Bool
-ofNci d k = attributeIs d (text "codeSystem") (text "2.16.840.1.113883.3.26.1.1") k
-
--- 33: of the NCI system, agent or import
-unfoldable pub isAgency : Draft → ℕ → Bool
-isAgency d k = ofNci d k and (attributeIs d (text "code") agentCode k or attributeIs d (text "code") importCode k)
-
-unfoldable pub breaks33 : Draft → ℕ → Bool
-breaks33 d n = is d Entity4 n and not (oneHas (onlyOne (operations d n)) (isAgency d))
-
--- 34: at the code
-unfoldable pub demand34 : Draft → ℕ → Demand
-demand34 d n = demandIf (is d OperationCode n) (CodeRow n)
 
 -- ---- 35 and 36: at the establishment. The operation codes four levels below it are those of its level 4 entities
 unfoldable pub inUsa : Draft → ℕ → Bool
@@ -54,13 +30,3 @@ breaks36 d n =
     is d Establishment n and addressHolds d n and inUsa d n
     and not
     (isEmpty (chosen d (wanted OperationCode 4 Agent) n) and isEmpty (chosen d (wanted OperationCode 4 Import) n))
-
--- ---- 37 and 38: the entity of an establishment
-unfoldable pub hasEstablishment : Draft → ℕ → Bool
-hasEstablishment d n = is d Entity3 n and not (isEmpty (kids d n Establishment))
-
-unfoldable pub breaks37 : Draft → ℕ → Bool
-breaks37 d n = hasEstablishment d n and isEmpty (operations d n)
-
-unfoldable pub breaks38 : Draft → ℕ → Bool
-breaks38 d n = is d OperationCode n and not (ofNci d n) and hasEstablishment d (ancestor d 3 n)

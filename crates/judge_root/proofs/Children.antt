@@ -17,48 +17,48 @@ use Rattle.judge_below.specs.Chosen.{chosen, wanted, one, the}
 use Rattle.judge_header.specs.declared.Header.{Header}
 use Rattle.judge_header.specs.declared.Property.{Property}
 use Rattle.judge_header.specs.declared.Property.the-variants.{GuidRoot, OfType, Day, Version}
-use Rattle.judge_header.specs.Header.{idHolds, setHolds, hasType, versionHolds, has}
+use Rattle.judge_header.specs.Header.{idHolds, setHolds, hasType, versionHolds, hasProperty}
 use Rattle.judge_root.specs.Root.{oneAt, oneOfRoot, breaks5, demand6, breaks7, demand8, breaks9, breaks10, breaks11, demand12, labelers, breaks13}
 
 -- ---- one child of the root with a property
 module _ (d : Draft) (found : Found) (r : ℕ) (p : Property) (n a : ℕ) (e : a ≡ role d n) where
-  pub number-wrong : a ≡ Root → (t : Bool) → t ≡ one found → not t ≡ oneOfRoot d found r (has d p) n
+  pub number-wrong : a ≡ Root → (t : Bool) → t ≡ one found → not t ≡ oneOfRoot d found r (hasProperty d p) n
   unfolding oneOfRoot is
   number-wrong f t g = rw (← e, eq-eqb a Root f, g)
 
   module _ (f : a ≡ Root → ⊥) where
     module _ (g : a ≡ r) (b : Bool) (h : b ≡ one found) where
-      pub property-wrong : b ≡ true → (t : Bool) → t ≡ has d p n → not t ≡ oneOfRoot d found r (has d p) n
+      pub property-wrong : b ≡ true → (t : Bool) → t ≡ hasProperty d p n → not t ≡ oneOfRoot d found r (hasProperty d p) n
       unfolding oneOfRoot oneAt is
       property-wrong i t j = rw (← e, ne-eqb a Root f, eq-eqb a r g, ← h, i, j)
 
-      pub one-of-many : b ≡ false → false ≡ oneOfRoot d found r (has d p) n
+      pub one-of-many : b ≡ false → false ≡ oneOfRoot d found r (hasProperty d p) n
       unfolding oneOfRoot oneAt is
       one-of-many i = rw (← e, ne-eqb a Root f, eq-eqb a r g, ← h, i)
 
-    pub elsewhere : (a ≡ r → ⊥) → false ≡ oneOfRoot d found r (has d p) n
+    pub elsewhere : (a ≡ r → ⊥) → false ≡ oneOfRoot d found r (hasProperty d p) n
     unfolding oneOfRoot oneAt is
     elsewhere g = rw (← e, ne-eqb a Root f, ne-eqb a r g)
 
 module _ (d : Draft) (h : Header) (n : ℕ) (r : Bool) where
-  pub five-is : r ≡ oneOfRoot d (h .id) Id (has d GuidRoot) n → r ≡ breaks5 d h n
-  unfolding breaks5 has
+  pub five-is : r ≡ oneOfRoot d (h .id) Id (hasProperty d GuidRoot) n → r ≡ breaks5 d h n
+  unfolding breaks5 hasProperty
   five-is e = e
 
-  pub seven-is : r ≡ oneOfRoot d (h .code) Code (has d OfType) n → r ≡ breaks7 d h n
-  unfolding breaks7 has
+  pub seven-is : r ≡ oneOfRoot d (h .code) Code (hasProperty d OfType) n → r ≡ breaks7 d h n
+  unfolding breaks7 hasProperty
   seven-is e = e
 
-  pub nine-is : r ≡ oneOfRoot d (h .time) EffectiveTime (has d Day) n → r ≡ breaks9 d h n
-  unfolding breaks9 has
+  pub nine-is : r ≡ oneOfRoot d (h .time) EffectiveTime (hasProperty d Day) n → r ≡ breaks9 d h n
+  unfolding breaks9 hasProperty
   nine-is e = e
 
-  pub ten-is : r ≡ oneOfRoot d (h .set) SetId (has d GuidRoot) n → r ≡ breaks10 d h n
-  unfolding breaks10 has
+  pub ten-is : r ≡ oneOfRoot d (h .set) SetId (hasProperty d GuidRoot) n → r ≡ breaks10 d h n
+  unfolding breaks10 hasProperty
   ten-is e = e
 
-  pub eleven-is : r ≡ oneOfRoot d (h .version) VersionNumber (has d Version) n → r ≡ breaks11 d h n
-  unfolding breaks11 has
+  pub eleven-is : r ≡ oneOfRoot d (h .version) VersionNumber (hasProperty d Version) n → r ≡ breaks11 d h n
+  unfolding breaks11 hasProperty
   eleven-is e = e
 
 -- ---- the labelers

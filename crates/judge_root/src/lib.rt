@@ -5,7 +5,7 @@ ghost use lib.Dec.{eqb};
 ghost use lib.ListN.{length};
 ghost use Rattle.judge_below.specs.declared.Test.the-variants.{Any};
 ghost use Rattle.judge_below.specs.Chosen.{chosen, wanted};
-ghost use Rattle.judge_header.specs.Header.{has};
+ghost use Rattle.judge_header.specs.Header.{hasProperty};
 ghost use Rattle.judge_root.specs.Root.{oneOfRoot, breaks5, demand6, breaks7, demand8, breaks9, breaks10, breaks11, demand12, labelers, breaks13};
 use judge_below::Test;
 use judge_below::Wanted;
@@ -15,7 +15,7 @@ use judge_draft::is_role;
 use judge_draft::role_at;
 use judge_header::Header;
 use judge_header::Property;
-use judge_header::has;
+use judge_header::has_property;
 use judge_header::has_type;
 use judge_header::id_holds;
 use judge_header::is_one;
@@ -35,7 +35,7 @@ fn one_of_root(
     property: Property,
     n: usize,
 ) -> bool
-    ensures { λ r. ⌜ r ≡ oneOfRoot (draft (now (document .entry)) (now (notes .entry))) found role (has (draft (now (document .entry)) (now (notes .entry))) property) n ⌝ }
+    ensures { λ r. ⌜ r ≡ oneOfRoot (draft (now (document .entry)) (now (notes .entry))) found role (hasProperty (draft (now (document .entry)) (now (notes .entry))) property) n ⌝ }
 {
     let is = role_at(document, notes, n);
     if is == role::ROOT {
@@ -43,7 +43,7 @@ fn one_of_root(
     }
     if is == role {
         if is_one(found) {
-            return !has(document, notes, property, n);
+            return !has_property(document, notes, property, n);
         }
         return false;
     }

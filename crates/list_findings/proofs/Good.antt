@@ -15,7 +15,7 @@ use Rattle.text_scan.specs.declared.Found.the-variants.{At, Nothing}
 use Rattle.list_findings.specs.declared.Finding.{Finding}
 use Rattle.list_findings.specs.Findings.{width, lastProcedure, isValid, precedes, records, flat}
 use Rattle.list_findings.specs.Lists.{Before, Ordered, All, Good}
-use Rattle.list_findings.specs.Merge.{badAfter, origin, orElse, partial, firstBad}
+use Rattle.list_findings.specs.Merge.{badAfter, origin, orElse, partial, firstBadRecord}
 use Rattle.list_findings.proofs.Order.{is-below}
 use Rattle.list_findings.proofs.Records.{records-flat, length-flat}
 
@@ -53,8 +53,8 @@ pub good-none : (rs : List Finding) → Good rs → badAfter 0 origin rs ≡ Not
 good-none rs g = after-good 0 origin rs (from-origin rs (g .valid)) (g .ordered) (g .valid)
 
 -- the same of a run of numbers, which also is in whole records
-pub run-good : (s : List ℕ) → firstBad s ≡ Nothing → Good (records s) × (length s % width ≡ 0)
-unfolding firstBad
+pub run-good : (s : List ℕ) → firstBadRecord s ≡ Nothing → Good (records s) × (length s % width ≡ 0)
+unfolding firstBadRecord
 run-good s e = go (badAfter 0 origin (records s)) refl e (eqb (length s % width) 0) refl
   where
     go : (f : Found) → badAfter 0 origin (records s) ≡ f → orElse f (partial s) ≡ Nothing → (t : Bool) → eqb (length s % width) 0 ≡ t → Good (records s) × (length s % width ≡ 0)
@@ -62,10 +62,10 @@ run-good s e = go (badAfter 0 origin (records s)) refl e (eqb (length s % width)
     go Nothing q e true p = (none-bad (records s) q, eqb-true (length s % width) 0 p)
     go Nothing q e false p = absurd (let m = rw p at e in let z : _≡_ {A = ℕ} 0 1 = cc in omega arith)
 
-pub good-run : (s : List ℕ) → Good (records s) → length s % width ≡ 0 → firstBad s ≡ Nothing
-unfolding firstBad
+pub good-run : (s : List ℕ) → Good (records s) → length s % width ≡ 0 → firstBadRecord s ≡ Nothing
+unfolding firstBadRecord
 good-run s g e = rw (good-none (records s) g, e)
 
 -- a good list, written as a run, is taken again
-pub good-flat : (rs : List Finding) → Good rs → firstBad (flat rs) ≡ Nothing
+pub good-flat : (rs : List Finding) → Good rs → firstBadRecord (flat rs) ≡ Nothing
 good-flat rs g = good-run (flat rs) (rw (records-flat rs) g) (omega (arith, length-flat rs))

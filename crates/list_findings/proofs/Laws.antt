@@ -16,7 +16,7 @@ use Rattle.list_findings.specs.declared.Merged.{Merged}
 use Rattle.list_findings.specs.declared.Merged.the-variants.{Findings, Refused}
 use Rattle.list_findings.specs.Findings.{width, classOf, isValid, records, flat, filled}
 use Rattle.list_findings.specs.Lists.{Ordered, All, Good, has, stays, FaultAt, Least}
-use Rattle.list_findings.specs.Merge.{Met, met, among, verdict, kept, faultOf, merged, firstFault, firstBad, Merging, refuse, tooMany, mergeOf, IsMerged}
+use Rattle.list_findings.specs.Merge.{Met, met, among, verdict, kept, faultOf, merged, firstFault, firstBadRecord, Merging, mergeRefused, tooMany, mergeOf, IsMerged}
 use Rattle.list_findings.proofs.Order.{irreflexive}
 use Rattle.list_findings.proofs.Records.{length-records, flat-records}
 use Rattle.list_findings.proofs.Lists.{ordered-same}
@@ -34,7 +34,7 @@ pub merged-good : (a b : List Finding) → Good a → Good b → Good (merged a 
 merged-good a b g h =
     record { ordered = kept-ordered classOf a b (g .ordered) (h .ordered); valid = kept-all classOf (λ r. isValid r ≡ true) a b (g .valid) (h .valid) }
 
-pub merged-again : (a b : List Finding) → Good a → Good b → firstBad (flat (merged a b)) ≡ Nothing
+pub merged-again : (a b : List Finding) → Good a → Good b → firstBadRecord (flat (merged a b)) ≡ Nothing
 merged-again a b g h = good-flat (merged a b) (merged-good a b g h)
 
 -- ---- a finding is in the merged list exactly where its class says so
@@ -83,7 +83,7 @@ unfolding met among faultOf verdict
 faultless-self [] = refl
 faultless-self (x ∷ xs) = rw (irreflexive x, eq-eqb (x .after) (x .after) refl) (faultless-self xs)
 
-pub merge-self : (s out : List ℕ) → firstBad s ≡ Nothing → length s ≤ length out → mergeOf s s out ≡ record { answer = Findings (length s / width); list = s ++ drop (length s) out }
+pub merge-self : (s out : List ℕ) → firstBadRecord s ≡ Nothing → length s ≤ length out → mergeOf s s out ≡ record { answer = Findings (length s / width); list = s ++ drop (length s) out }
 unfolding mergeOf
 merge-self s out e h =
     let n = length-records s in
@@ -92,7 +92,7 @@ merge-self s out e h =
     rw (e, faultless-self (records s), merged-self (records s), n, le-leb (length s / width) (length out / width) g, f)
 
 -- ---- the number answered is the merged list's length, with that list in front; and a refusal leaves the third list as it was
-refuse-case : (P : Merging → Type 0) (number : ℕ) (f : Found) (out : List ℕ) (o : Merging) → ((place : ℕ) → P (record { answer = Refused number place; list = out })) → P o → P (refuse number f out o)
+refuse-case : (P : Merging → Type 0) (number : ℕ) (f : Found) (out : List ℕ) (o : Merging) → ((place : ℕ) → P (record { answer = Refused number place; list = out })) → P o → P (mergeRefused number f out o)
 refuse-case P number (At place) out o h k = h place
 refuse-case P number Nothing out o h k = k
 
@@ -101,8 +101,8 @@ module _ (P : Merging → Type 0) (a b out : List ℕ) (h : (number place : ℕ)
   outcome-case : P (mergeOf a b out)
   unfolding mergeOf
   outcome-case =
-      refuse-case P 12 (firstBad a) out _ (h 12)
-      (refuse-case P 12 (firstBad b) out _ (h 12)
+      refuse-case P 12 (firstBadRecord a) out _ (h 12)
+      (refuse-case P 12 (firstBadRecord b) out _ (h 12)
       (refuse-case P 13 (firstFault (records a) (records b)) out _ (h 13)
       (refuse-case P 11 (tooMany (merged (records a) (records b)) out) out _ (h 11) k)))
 

@@ -25,12 +25,12 @@ keptByBoth = 8 ∷ 18 ∷ 34 ∷ []
 abbrev pub keptByEither : List ℕ
 keptByEither = 6 ∷ 12 ∷ 21 ∷ 22 ∷ []
 
-abbrev pub isOneOf : List ℕ → ℕ → Bool
-isOneOf [] p = false
-isOneOf (q ∷ qs) p = eqb p q or isOneOf qs p
+abbrev pub isAmong : List ℕ → ℕ → Bool
+isAmong [] p = false
+isAmong (q ∷ qs) p = eqb p q or isAmong qs p
 
 unfoldable pub classOf : ℕ → Class
-classOf p = pick (isOneOf keptByBoth p) Both (pick (isOneOf keptByEither p) Either DocumentOnly)
+classOf p = pick (isAmong keptByBoth p) Both (pick (isAmong keptByEither p) Either DocumentOnly)
 
 -- a procedure of 1 to the last, and a start below its end
 abbrev pub isValid : Finding → Bool

@@ -36,8 +36,8 @@ abbrev pub partial : List ℕ → Found
 partial s = pick (eqb (length s % width) 0) Nothing (At (length s / width))
 
 -- the number from 0 of the first bad record of a run of numbers
-unfoldable pub firstBad : List ℕ → Found
-firstBad s = orElse (badAfter 0 origin (records s)) (partial s)
+unfoldable pub firstBadRecord : List ℕ → Found
+firstBadRecord s = orElse (badAfter 0 origin (records s)) (partial s)
 
 -- ---- what two lists meet
 pub data Met : Type 0 where
@@ -102,9 +102,9 @@ pub record Merging : Type 0 where
   pub list : List ℕ
 
 -- a refusal with this number where something is found, which leaves the third list as it was
-abbrev pub refuse : ℕ → Found → List ℕ → Merging → Merging
-refuse number (At place) out otherwise = record { answer = Refused number place; list = out }
-refuse number Nothing out otherwise = otherwise
+abbrev pub mergeRefused : ℕ → Found → List ℕ → Merging → Merging
+mergeRefused number (At place) out otherwise = record { answer = Refused number place; list = out }
+mergeRefused number Nothing out otherwise = otherwise
 
 -- refusal 11: how many findings there are, where the room is for fewer
 abbrev pub tooMany : List Finding → List ℕ → Found
@@ -113,10 +113,10 @@ tooMany rs out = pick (leb (length rs) (length out / width)) Nothing (At (length
 -- 12 of the first list, 12 of the second, 13, 11, in this order
 unfoldable pub mergeOf : List ℕ → List ℕ → List ℕ → Merging
 mergeOf a b out =
-    refuse 12 (firstBad a) out
-    (refuse 12 (firstBad b) out
-    (refuse 13 (firstFault (records a) (records b)) out
-    (refuse 11 (tooMany (merged (records a) (records b)) out) out
+    mergeRefused 12 (firstBadRecord a) out
+    (mergeRefused 12 (firstBadRecord b) out
+    (mergeRefused 13 (firstFault (records a) (records b)) out
+    (mergeRefused 11 (tooMany (merged (records a) (records b)) out) out
     (record { answer = Findings (length (merged (records a) (records b))); list = filled (merged (records a) (records b)) out }))))
 
 -- the contract of the merge

@@ -3,7 +3,7 @@ ghost use mathlib.Core.Path.{_≡_};
 ghost use Prim.Native.Nat.{_+_, _-_, _≤_};
 ghost use lib.Dec.{leb};
 ghost use lib.ListN.{length};
-ghost use Rattle.list_findings.specs.Findings.{width, isOneOf, classOf, isValid, precedes, recordAt, stored};
+ghost use Rattle.list_findings.specs.Findings.{width, isAmong, classOf, isValid, precedes, recordAt, stored};
 
 // The numbers of a record.
 pub const WIDTH: usize = 3;
@@ -37,7 +37,7 @@ pub enum Merged {
 
 // Whether a procedure is one of a list.
 fn is_one_of(list: &[u32], procedure: u32) -> bool
-    ensures { λ r. ⌜ r ≡ isOneOf (now (list .entry)) procedure ⌝ }
+    ensures { λ r. ⌜ r ≡ isAmong (now (list .entry)) procedure ⌝ }
 {
     let mut i = 0;
     while i < list.len() {

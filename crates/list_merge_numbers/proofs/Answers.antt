@@ -11,7 +11,7 @@ use Rattle.text_scan.specs.declared.Found.the-variants.{At, Nothing}
 use Rattle.list_findings.specs.declared.Finding.{Finding}
 use Rattle.list_findings.specs.declared.Merged.the-variants.{Findings, Refused}
 use Rattle.list_findings.specs.Findings.{width, records, filled}
-use Rattle.list_findings.specs.Merge.{firstBad, merged, firstFault, mergeOf, IsMerged}
+use Rattle.list_findings.specs.Merge.{firstBadRecord, merged, firstFault, mergeOf, IsMerged}
 use Rattle.list_merge_numbers.specs.declared.Surveyed.{Surveyed}
 use Rattle.list_merge_numbers.specs.declared.Surveyed.the-variants.{Count, Fault}
 use Rattle.list_merge_numbers.specs.Step.{counted, surveyOf}
@@ -39,12 +39,12 @@ module _ (a b : List ℕ) (s : Surveyed) (es : s ≡ surveyOf 0 (records a) (rec
   pub roomy : (out : List ℕ) → n ≤ length out / width → length (merged (records a) (records b)) ≤ length out / width
   roomy out h = rw count h
 
-module _ (a b out : List ℕ) (fa : Found) (ea : fa ≡ firstBad a) where
+module _ (a b out : List ℕ) (fa : Found) (ea : fa ≡ firstBadRecord a) where
   pub bad-first : (n : ℕ) → fa ≡ At n → IsMerged a b out (Refused 12 n) out
   unfolding mergeOf
   bad-first n ga = record { answers = rw (← ea, ga); leaves = rw (← ea, ga) }
 
-  module _ (ga : fa ≡ Nothing) (fb : Found) (eb : fb ≡ firstBad b) where
+  module _ (ga : fa ≡ Nothing) (fb : Found) (eb : fb ≡ firstBadRecord b) where
     pub bad-second : (n : ℕ) → fb ≡ At n → IsMerged a b out (Refused 12 n) out
     unfolding mergeOf
     bad-second n gb = record { answers = rw (← ea, ga, ← eb, gb); leaves = rw (← ea, ga, ← eb, gb) }

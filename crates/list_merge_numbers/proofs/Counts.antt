@@ -14,7 +14,7 @@ use Rattle.list_findings.specs.Merge.{merged, firstFault}
 use Rattle.list_merge_numbers.specs.declared.Stepped.{Stepped}
 use Rattle.list_merge_numbers.specs.declared.Stepped.the-variants.{Over, Fault, Leave, Keep}
 use Rattle.list_merge_numbers.specs.declared.Surveyed.the-variants.{Count, Fault as Faulty}
-use Rattle.list_merge_numbers.specs.Step.{stepOf, counted, surveyOf}
+use Rattle.list_merge_numbers.specs.Step.{mergeStep, counted, surveyOf}
 use Rattle.list_merge_numbers.proofs.Walk.{said}
 
 pub record Counts (a b : List ℕ) (i j n : ℕ) : Type 0 where
@@ -31,7 +31,7 @@ one-more : (n : ℕ) (f : Found) (r : Finding) (rs : List Finding) → counted n
 one-more n (At at) r rs = refl
 one-more n Nothing r rs = let e : n + length (r ∷ rs) ≡ n + 1 + length rs = omega arith in ap Count e
 
-module _ (a b : List ℕ) (i j n : ℕ) (l : Counts a b i j n) (s : Stepped) (e : s ≡ stepOf (records (drop i a)) i (records (drop j b)) j) where
+module _ (a b : List ℕ) (i j n : ℕ) (l : Counts a b i j n) (s : Stepped) (e : s ≡ mergeStep (records (drop i a)) i (records (drop j b)) j) where
   pub count-over : s ≡ Over → Count n ≡ surveyOf 0 (records a) (records b)
   count-over f =
       let k = said a i b j (l .within) (l .within′) s e Over f in

@@ -15,7 +15,7 @@ use Rattle.list_findings.specs.Merge.{verdict}
 use Rattle.list_findings.proofs.Records.{records-next, records-none}
 use Rattle.list_merge_numbers.specs.declared.Stepped.{Stepped}
 use Rattle.list_merge_numbers.specs.declared.Stepped.the-variants.{Over, Fault, Leave, Keep}
-use Rattle.list_merge_numbers.specs.Step.{aloneOf, pairOf, stepOf}
+use Rattle.list_merge_numbers.specs.Step.{aloneOf, pairOf, mergeStep}
 
 -- ---- a finding of one list alone, by its class
 module _ (r : Finding) (i j : ℕ) (c : Class) (e : c ≡ classOf (r .procedure)) where
@@ -50,18 +50,18 @@ module _ (x y : Finding) (i j : ℕ) (t : Bool) (e : t ≡ precedes x y) where
 
 -- ---- what is left of two lists
 module _ (a : List ℕ) (i : ℕ) (b : List ℕ) (j : ℕ) (t : Bool) (e : t ≡ leb width (length a - i)) (u : Bool) (eu : u ≡ leb width (length b - j)) where
-  pub step-both : (x y : Finding) (s : Stepped) → t ≡ true → u ≡ true → x ≡ recordAt a i → y ≡ recordAt b j → s ≡ pairOf x y i j → s ≡ stepOf (records (drop i a)) i (records (drop j b)) j
-  unfolding stepOf
+  pub step-both : (x y : Finding) (s : Stepped) → t ≡ true → u ≡ true → x ≡ recordAt a i → y ≡ recordAt b j → s ≡ pairOf x y i j → s ≡ mergeStep (records (drop i a)) i (records (drop j b)) j
+  unfolding mergeStep
   step-both x y s f g ex ey q = q ∙ rw (records-next a i t x e f ex, records-next b j u y eu g ey)
 
-  pub step-first : (x : Finding) (s : Stepped) → t ≡ true → u ≡ false → x ≡ recordAt a i → s ≡ aloneOf x (i + width) j → s ≡ stepOf (records (drop i a)) i (records (drop j b)) j
-  unfolding stepOf
+  pub step-first : (x : Finding) (s : Stepped) → t ≡ true → u ≡ false → x ≡ recordAt a i → s ≡ aloneOf x (i + width) j → s ≡ mergeStep (records (drop i a)) i (records (drop j b)) j
+  unfolding mergeStep
   step-first x s f g ex q = q ∙ rw (records-next a i t x e f ex, records-none b j u eu g)
 
-  pub step-second : (y : Finding) (s : Stepped) → t ≡ false → u ≡ true → y ≡ recordAt b j → s ≡ aloneOf y i (j + width) → s ≡ stepOf (records (drop i a)) i (records (drop j b)) j
-  unfolding stepOf
+  pub step-second : (y : Finding) (s : Stepped) → t ≡ false → u ≡ true → y ≡ recordAt b j → s ≡ aloneOf y i (j + width) → s ≡ mergeStep (records (drop i a)) i (records (drop j b)) j
+  unfolding mergeStep
   step-second y s f g ey q = q ∙ rw (records-none a i t e f, records-next b j u y eu g ey)
 
-  pub step-over : t ≡ false → u ≡ false → Over ≡ stepOf (records (drop i a)) i (records (drop j b)) j
-  unfolding stepOf
+  pub step-over : t ≡ false → u ≡ false → Over ≡ mergeStep (records (drop i a)) i (records (drop j b)) j
+  unfolding mergeStep
   step-over f g = rw (records-none a i t e f, records-none b j u eu g)

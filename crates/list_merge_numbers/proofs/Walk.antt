@@ -15,7 +15,7 @@ use Rattle.list_findings.specs.Merge.{Met, alone, twice, met, among, Verdict, k
 use Rattle.list_findings.proofs.Records.{records-here, records-over}
 use Rattle.list_merge_numbers.specs.declared.Stepped.{Stepped}
 use Rattle.list_merge_numbers.specs.declared.Stepped.the-variants.{Over, Fault, Leave, Keep}
-use Rattle.list_merge_numbers.specs.Step.{stepBy, aloneOf, stepOf}
+use Rattle.list_merge_numbers.specs.Step.{verdictStep, aloneOf, mergeStep}
 
 -- the places x and y after a step from i and j: within, and one of them further
 pub record Moves (a : List ℕ) (i : ℕ) (b : List ℕ) (j x y : ℕ) : Type 0 where
@@ -38,18 +38,18 @@ Says a i b j (Leave x y) = Kept a i b j [] x y
 Says a i b j (Keep r x y) = Kept a i b j (r ∷ []) x y
 
 module _ (a : List ℕ) (i : ℕ) (b : List ℕ) (j : ℕ) where
-  by-verdict : (m : Met) (x y : ℕ) → Moves a i b j x y → met (records (drop i a)) (records (drop j b)) ≡ m ∷ met (records (drop x a)) (records (drop y b)) → Says a i b j (stepBy (verdict classOf m) x y)
+  by-verdict : (m : Met) (x y : ℕ) → Moves a i b j x y → met (records (drop i a)) (records (drop j b)) ≡ m ∷ met (records (drop x a)) (records (drop y b)) → Says a i b j (verdictStep (verdict classOf m) x y)
   unfolding kept faultOf
   by-verdict m x y v e = go (verdict classOf m) refl
     where
-      go : (u : Verdict) → verdict classOf m ≡ u → Says a i b j (stepBy u x y)
+      go : (u : Verdict) → verdict classOf m ≡ u → Says a i b j (verdictStep u x y)
       go (keep r) q = record { moves = v; keeps = rw (e, q); faults = rw (e, q) }
       go leave q = record { moves = v; keeps = rw (e, q); faults = rw (e, q) }
       go (fault at) q = rw (e, q)
 
   module _ (h : i ≤ length a) (g : j ≤ length b) where
-    says-both : i + width ≤ length a → j + width ≤ length b → Says a i b j (stepOf (records (drop i a)) i (records (drop j b)) j)
-    unfolding stepOf met among
+    says-both : i + width ≤ length a → j + width ≤ length b → Says a i b j (mergeStep (records (drop i a)) i (records (drop j b)) j)
+    unfolding mergeStep met among
     says-both p q = rw (records-here a i p, records-here b j q) (go (precedes x y) refl (precedes y x) refl)
       where
         x : Finding
@@ -58,35 +58,35 @@ module _ (a : List ℕ) (i : ℕ) (b : List ℕ) (j : ℕ) where
         y : Finding
         y = recordAt b j
 
-        go : (t : Bool) → precedes x y ≡ t → (u : Bool) → precedes y x ≡ u → Says a i b j (pick t (aloneOf x (i + width) j) (pick u (aloneOf y i (j + width)) (stepBy (verdict classOf (twice x y)) (i + width) (j + width))))
+        go : (t : Bool) → precedes x y ≡ t → (u : Bool) → precedes y x ≡ u → Says a i b j (pick t (aloneOf x (i + width) j) (pick u (aloneOf y i (j + width)) (verdictStep (verdict classOf (twice x y)) (i + width) (j + width))))
         go true e u f = by-verdict (alone x) (i + width) j (record { ahead = omega arith; ahead′ = omega arith; further = omega arith; within = p; within′ = g }) (rw (records-here a i p, records-here b j q, e))
         go false e true f = by-verdict (alone y) i (j + width) (record { ahead = omega arith; ahead′ = omega arith; further = omega arith; within = h; within′ = q }) (rw (records-here a i p, records-here b j q, e, f))
         go false e false f = by-verdict (twice x y) (i + width) (j + width) (record { ahead = omega arith; ahead′ = omega arith; further = omega arith; within = p; within′ = q }) (rw (records-here a i p, records-here b j q, e, f))
 
-    says-first : i + width ≤ length a → length b - j < width → Says a i b j (stepOf (records (drop i a)) i (records (drop j b)) j)
-    unfolding stepOf met among
+    says-first : i + width ≤ length a → length b - j < width → Says a i b j (mergeStep (records (drop i a)) i (records (drop j b)) j)
+    unfolding mergeStep met among
     says-first p q =
         rw (records-here a i p, records-over b j q)
         (by-verdict (alone (recordAt a i)) (i + width) j (record { ahead = omega arith; ahead′ = omega arith; further = omega arith; within = p; within′ = g }) (rw (records-here a i p, records-over b j q)))
 
-    says-second : length a - i < width → j + width ≤ length b → Says a i b j (stepOf (records (drop i a)) i (records (drop j b)) j)
-    unfolding stepOf met
+    says-second : length a - i < width → j + width ≤ length b → Says a i b j (mergeStep (records (drop i a)) i (records (drop j b)) j)
+    unfolding mergeStep met
     says-second p q =
         rw (records-over a i p, records-here b j q)
         (by-verdict (alone (recordAt b j)) i (j + width) (record { ahead = omega arith; ahead′ = omega arith; further = omega arith; within = h; within′ = q }) (rw (records-over a i p, records-here b j q)))
 
-    says-over : length a - i < width → length b - j < width → Says a i b j (stepOf (records (drop i a)) i (records (drop j b)) j)
-    unfolding stepOf met kept faultOf
+    says-over : length a - i < width → length b - j < width → Says a i b j (mergeStep (records (drop i a)) i (records (drop j b)) j)
+    unfolding mergeStep met kept faultOf
     says-over p q = rw (records-over a i p, records-over b j q) (rw (records-over a i p, records-over b j q), rw (records-over a i p, records-over b j q))
 
-    says : Says a i b j (stepOf (records (drop i a)) i (records (drop j b)) j)
+    says : Says a i b j (mergeStep (records (drop i a)) i (records (drop j b)) j)
     says =
         inside (length a) (i + width - 1)
         (λ p. inside (length b) (j + width - 1) (λ q. says-both (omega arith) (omega arith)) (λ q. says-first (omega arith) (omega arith)))
         (λ p. inside (length b) (j + width - 1) (λ q. says-second (omega arith) (omega arith)) (λ q. says-over (omega arith) (omega arith)))
 
     -- the same of a step that was answered
-    module _ (s : Stepped) (e : s ≡ stepOf (records (drop i a)) i (records (drop j b)) j) where
+    module _ (s : Stepped) (e : s ≡ mergeStep (records (drop i a)) i (records (drop j b)) j) where
       pub said : (t : Stepped) → s ≡ t → Says a i b j t
       said t f = rw (← f, e) says
 

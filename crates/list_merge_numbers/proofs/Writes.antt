@@ -14,7 +14,7 @@ use Rattle.list_findings.proofs.Records.{length-flat}
 use Rattle.list_findings.proofs.Filling.{filled-sets, one-stored, length-stored}
 use Rattle.list_merge_numbers.specs.declared.Stepped.{Stepped}
 use Rattle.list_merge_numbers.specs.declared.Stepped.the-variants.{Over, Fault, Leave, Keep}
-use Rattle.list_merge_numbers.specs.Step.{stepOf}
+use Rattle.list_merge_numbers.specs.Step.{mergeStep}
 use Rattle.list_merge_numbers.proofs.Walk.{said}
 
 pub record Writes (a b old out : List ℕ) (i j k : ℕ) : Type 0 where
@@ -29,7 +29,7 @@ pub writes-start : (a b out : List ℕ) → firstFault (records a) (records b) �
 writes-start a b out f h =
     record { writes = refl; faultless = f; fits = omega (arith, length-flat (merged (records a) (records b))); long = refl; within = omega arith; within′ = omega arith }
 
-module _ (a b old out : List ℕ) (i j k : ℕ) (l : Writes a b old out i j k) (s : Stepped) (e : s ≡ stepOf (records (drop i a)) i (records (drop j b)) j) where
+module _ (a b old out : List ℕ) (i j k : ℕ) (l : Writes a b old out i j k) (s : Stepped) (e : s ≡ mergeStep (records (drop i a)) i (records (drop j b)) j) where
   pub write-over : s ≡ Over → length (merged (records a) (records b)) ≤ length old / width → out ≡ filled (merged (records a) (records b)) old
   unfolding flat
   write-over f h =

@@ -16,26 +16,26 @@ use Rattle.list_merge_numbers.specs.declared.Surveyed.{Surveyed}
 use Rattle.list_merge_numbers.specs.declared.Surveyed.the-variants.{Count, Fault as Faulty}
 
 -- a verdict, with the places after what was met
-abbrev pub stepBy : Verdict → ℕ → ℕ → Stepped
-stepBy (keep r) i j = Keep r i j
-stepBy leave i j = Leave i j
-stepBy (fault at) i j = Fault at
+abbrev pub verdictStep : Verdict → ℕ → ℕ → Stepped
+verdictStep (keep r) i j = Keep r i j
+verdictStep leave i j = Leave i j
+verdictStep (fault at) i j = Fault at
 
 abbrev pub aloneOf : Finding → ℕ → ℕ → Stepped
-aloneOf r i j = stepBy (verdict classOf (alone r)) i j
+aloneOf r i j = verdictStep (verdict classOf (alone r)) i j
 
 -- two records at i and j
 abbrev pub pairOf : Finding → Finding → ℕ → ℕ → Stepped
 pairOf x y i j =
     pick (precedes x y) (aloneOf x (i + width) j)
-    (pick (precedes y x) (aloneOf y i (j + width)) (stepBy (verdict classOf (twice x y)) (i + width) (j + width)))
+    (pick (precedes y x) (aloneOf y i (j + width)) (verdictStep (verdict classOf (twice x y)) (i + width) (j + width)))
 
 -- what is left of the two lists at i and j
-unfoldable pub stepOf : List Finding → ℕ → List Finding → ℕ → Stepped
-stepOf [] i [] j = Over
-stepOf [] i (y ∷ ys) j = aloneOf y i (j + width)
-stepOf (x ∷ xs) i [] j = aloneOf x (i + width) j
-stepOf (x ∷ xs) i (y ∷ ys) j = pairOf x y i j
+unfoldable pub mergeStep : List Finding → ℕ → List Finding → ℕ → Stepped
+mergeStep [] i [] j = Over
+mergeStep [] i (y ∷ ys) j = aloneOf y i (j + width)
+mergeStep (x ∷ xs) i [] j = aloneOf x (i + width) j
+mergeStep (x ∷ xs) i (y ∷ ys) j = pairOf x y i j
 
 -- the first fault, or n with the findings that are kept
 abbrev pub counted : ℕ → Found → List Finding → Surveyed

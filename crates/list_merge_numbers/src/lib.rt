@@ -4,8 +4,8 @@ ghost use Prim.Native.Nat.{_+_, _/_, _^_, _<_, _≤_};
 ghost use lib.ListN.{length, drop};
 ghost use Rattle.text_scan.specs.declared.Found.{Found};
 ghost use Rattle.list_findings.specs.Findings.{width, records, filled};
-ghost use Rattle.list_findings.specs.Merge.{firstBad, merged, firstFault, IsMerged};
-ghost use Rattle.list_merge_numbers.specs.Step.{aloneOf, pairOf, stepOf, surveyOf};
+ghost use Rattle.list_findings.specs.Merge.{firstBadRecord, merged, firstFault, IsMerged};
+ghost use Rattle.list_merge_numbers.specs.Step.{aloneOf, pairOf, mergeStep, surveyOf};
 use list_findings::Class;
 use list_findings::Finding;
 use list_findings::Merged;
@@ -28,7 +28,7 @@ pub enum Surveyed {
 
 // The number of the first bad record.
 fn first_bad(s: &[u32]) -> Found
-    ensures { λ r. ⌜ r ≡ firstBad (now (s .entry)) ⌝ }
+    ensures { λ r. ⌜ r ≡ firstBadRecord (now (s .entry)) ⌝ }
 {
     let mut last = Finding {
         procedure: 0,
@@ -86,7 +86,7 @@ pub fn pair(x: Finding, y: Finding, i: usize, j: usize) -> Stepped
 
 // The step at places i and j of the two lists.
 fn step(a: &[u32], i: usize, b: &[u32], j: usize) -> Stepped
-    ensures { λ r. ⌜ r ≡ stepOf (records (drop i (now (a .entry)))) i (records (drop j (now (b .entry)))) j ⌝ }
+    ensures { λ r. ⌜ r ≡ mergeStep (records (drop i (now (a .entry)))) i (records (drop j (now (b .entry)))) j ⌝ }
 {
     if list_findings::has_record(a, i) {
         let x = list_findings::record_at(a, i);

@@ -12,7 +12,7 @@ use Rattle.text_scan.proofs.Within.{inside}
 use Rattle.list_findings.specs.declared.Merged.{Merged}
 use Rattle.list_findings.specs.declared.Merged.the-variants.{Findings, Refused}
 use Rattle.list_findings.specs.Findings.{width, records, filled}
-use Rattle.list_findings.specs.Merge.{firstBad, merged, firstFault, IsMerged}
+use Rattle.list_findings.specs.Merge.{firstBadRecord, merged, firstFault, IsMerged}
 use Rattle.list_merge_numbers.specs.declared.Surveyed.{Surveyed}
 use Rattle.list_merge_numbers.specs.declared.Surveyed.the-variants.{Count, Fault}
 use Rattle.list_merge_numbers.specs.Step.{surveyOf}
@@ -50,12 +50,12 @@ differ number at n e = absurd (let z : _≡_ {A = ℕ} 0 1 = cc in omega arith)
 module _ (a b out : List ℕ) where
   -- the findings are counted, there is no fault, and they fit
   record Fit (n : ℕ) : Type 0 where
-    bad : firstBad a ≡ Nothing
-    bad′ : firstBad b ≡ Nothing
+    bad : firstBadRecord a ≡ Nothing
+    bad′ : firstBadRecord b ≡ Nothing
     counts : surveyOf 0 (records a) (records b) ≡ Count n
     fits : n ≤ length out / width
 
-  fit : (fa fb : Found) (s : Surveyed) → fa ≡ firstBad a → fb ≡ firstBad b → s ≡ surveyOf 0 (records a) (records b) → (n : ℕ) → judgeOf fa fb s (length out / width) ≡ Findings n → Fit n
+  fit : (fa fb : Found) (s : Surveyed) → fa ≡ firstBadRecord a → fb ≡ firstBadRecord b → s ≡ surveyOf 0 (records a) (records b) → (n : ℕ) → judgeOf fa fb s (length out / width) ≡ Findings n → Fit n
   unfolding judgeOf
   fit (At k) fb s ea eb es n e = differ 12 k n e
   fit Nothing (At k) s ea eb es n e = differ 12 k n e
@@ -68,7 +68,7 @@ module _ (a b out : List ℕ) where
       let f : k ≡ n = cc in
       record { bad = sym ea; bad′ = sym eb; counts = sym es ∙ rw f; fits = rw f at g })
 
-  refused : (fa fb : Found) (s : Surveyed) → fa ≡ firstBad a → fb ≡ firstBad b → s ≡ surveyOf 0 (records a) (records b) → (number at : ℕ) → judgeOf fa fb s (length out / width) ≡ Refused number at
+  refused : (fa fb : Found) (s : Surveyed) → fa ≡ firstBadRecord a → fb ≡ firstBadRecord b → s ≡ surveyOf 0 (records a) (records b) → (number at : ℕ) → judgeOf fa fb s (length out / width) ≡ Refused number at
       → IsMerged a b out (judgeOf fa fb s (length out / width)) out
   unfolding judgeOf
   refused (At k) fb s ea eb es number at e = answers.bad-first a b out (At k) ea k refl
@@ -79,7 +79,7 @@ module _ (a b out : List ℕ) where
       (λ g. rw (lt-leb k (length out / width) g) (answers.too-many a b out Nothing ea refl Nothing eb refl (Count k) es k refl g))
       (λ g. differ number at k (sym (rw (le-leb k (length out / width) g) at e)))
 
-  module _ (fa fb : Found) (s : Surveyed) (ea : fa ≡ firstBad a) (eb : fb ≡ firstBad b) (es : s ≡ surveyOf 0 (records a) (records b)) (r : Merged) (er : r ≡ judgeOf fa fb s (length out / width)) where
+  module _ (fa fb : Found) (s : Surveyed) (ea : fa ≡ firstBadRecord a) (eb : fb ≡ firstBadRecord b) (es : s ≡ surveyOf 0 (records a) (records b)) (r : Merged) (er : r ≡ judgeOf fa fb s (length out / width)) where
     pub refusal : (number at : ℕ) → r ≡ Refused number at → IsMerged a b out r out
     refusal number at e = rw er (refused fa fb s ea eb es number at (sym er ∙ e))
 

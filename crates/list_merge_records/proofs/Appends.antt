@@ -9,12 +9,12 @@ use Rattle.list_findings.specs.declared.Finding.{Finding}
 use Rattle.list_findings.specs.Findings.{width, records, stored}
 use Rattle.list_merge_numbers.specs.declared.Stepped.{Stepped}
 use Rattle.list_merge_numbers.specs.declared.Stepped.the-variants.{Keep}
-use Rattle.list_merge_numbers.specs.Step.{stepOf}
+use Rattle.list_merge_numbers.specs.Step.{mergeStep}
 use Rattle.list_merge_numbers.proofs.Writes.{Writes, keep-room, write-keep}
 use Rattle.list_writer.specs.Listed.{listAfter, countAfter}
 use Rattle.list_writer.proofs.Filled.{room-list, room-count}
 
-module _ (a b old out : List ℕ) (i j n : ℕ) (l : Writes a b old out i j (n * width)) (s : Stepped) (e : s ≡ stepOf (records (drop i a)) i (records (drop j b)) j) (x y : ℕ) (r : Finding) (f : s ≡ Keep r x y) where
+module _ (a b old out : List ℕ) (i j n : ℕ) (l : Writes a b old out i j (n * width)) (s : Stepped) (e : s ≡ mergeStep (records (drop i a)) i (records (drop j b)) j) (x y : ℕ) (r : Finding) (f : s ≡ Keep r x y) where
   pub append-keep : (new : List ℕ) (m : ℕ) → new ≡ listAfter out n r → m ≡ countAfter out n → Writes a b old new x y (m * width)
   append-keep new m p q =
       let g = keep-room a b old out i j (n * width) l s e x y r f in

@@ -17,7 +17,7 @@ use Rattle.list_findings.specs.Merge.{origin, Verdict, keep, leave, fault, alon
 use Rattle.list_findings.proofs.Records.{records-flat, length-flat}
 use Rattle.list_merge_numbers.specs.declared.Stepped.{Stepped}
 use Rattle.list_merge_numbers.specs.declared.Stepped.the-variants.{Over, Fault, Leave, Keep}
-use Rattle.list_merge_numbers.specs.Step.{stepBy, aloneOf, pairOf, stepOf}
+use Rattle.list_merge_numbers.specs.Step.{verdictStep, aloneOf, pairOf, mergeStep}
 use Rattle.list_merge_numbers.proofs.Walk.{Says, said}
 use Rattle.list_merge_numbers.proofs.Counts.{Counts}
 use Rattle.list_merge_records.specs.declared.Next.{Next}
@@ -71,15 +71,15 @@ module _ (x : Next) (i : ℕ) (y : Next) (j : ℕ) where
   unfolding decideOf
   decide-both g h s e f q = q ∙ rw (e, f)
 
-decided : (xs : List Finding) (i : ℕ) (ys : List Finding) (j : ℕ) → decideOf (nextOf xs) i (nextOf ys) j ≡ stepOf xs i ys j
-unfolding decideOf nextOf stepOf
+decided : (xs : List Finding) (i : ℕ) (ys : List Finding) (j : ℕ) → decideOf (nextOf xs) i (nextOf ys) j ≡ mergeStep xs i ys j
+unfolding decideOf nextOf mergeStep
 decided [] i [] j = refl
 decided [] i (y ∷ ys) j = refl
 decided (x ∷ xs) i [] j = refl
 decided (x ∷ xs) i (y ∷ ys) j = refl
 
 module _ (a : List Finding) (i : ℕ) (b : List Finding) (j : ℕ) (p : Place a i) (q : Place b j) where
-  pub step-is : (x y : Next) (s : Stepped) → x ≡ nextOf (drop (i / width) a) → y ≡ nextOf (drop (j / width) b) → s ≡ decideOf x i y j → s ≡ stepOf (records (drop i (flat a))) i (records (drop j (flat b))) j
+  pub step-is : (x y : Next) (s : Stepped) → x ≡ nextOf (drop (i / width) a) → y ≡ nextOf (drop (j / width) b) → s ≡ decideOf x i y j → s ≡ mergeStep (records (drop i (flat a))) i (records (drop j (flat b))) j
   step-is x y s ex ey e = e ∙ rw (ex, ey, from-place a i p, from-place b j q) (decided (drop (i / width) a) i (drop (j / width) b) j)
 
 -- a walk passes a record for each finding that it keeps
@@ -93,28 +93,28 @@ Wholes (Fault at) = Unit {0}
 Wholes (Leave x y) = (x % width ≡ 0) × (y % width ≡ 0)
 Wholes (Keep r x y) = (x % width ≡ 0) × (y % width ≡ 0)
 
-by-verdict : (v : Verdict) (x y : ℕ) → x % width ≡ 0 → y % width ≡ 0 → Wholes (stepBy v x y)
+by-verdict : (v : Verdict) (x y : ℕ) → x % width ≡ 0 → y % width ≡ 0 → Wholes (verdictStep v x y)
 by-verdict (keep r) x y h g = (h, g)
 by-verdict leave x y h g = (h, g)
 by-verdict (fault at) x y h g = tt
 
-step-wholes : (xs : List Finding) (i : ℕ) (ys : List Finding) (j : ℕ) → i % width ≡ 0 → j % width ≡ 0 → Wholes (stepOf xs i ys j)
-unfolding stepOf
+step-wholes : (xs : List Finding) (i : ℕ) (ys : List Finding) (j : ℕ) → i % width ≡ 0 → j % width ≡ 0 → Wholes (mergeStep xs i ys j)
+unfolding mergeStep
 step-wholes [] i [] j h g = tt
 step-wholes [] i (y ∷ ys) j h g = by-verdict (verdict classOf (alone y)) i (j + width) h (omega arith)
 step-wholes (x ∷ xs) i [] j h g = by-verdict (verdict classOf (alone x)) (i + width) j (omega arith) g
 step-wholes (x ∷ xs) i (y ∷ ys) j h g =
     pick-case Wholes (precedes x y) (aloneOf x (i + width) j)
-    (pick (precedes y x) (aloneOf y i (j + width)) (stepBy (verdict classOf (twice x y)) (i + width) (j + width)))
+    (pick (precedes y x) (aloneOf y i (j + width)) (verdictStep (verdict classOf (twice x y)) (i + width) (j + width)))
     (λ _. by-verdict (verdict classOf (alone x)) (i + width) j (omega arith) g)
-    (λ _. pick-case Wholes (precedes y x) (aloneOf y i (j + width)) (stepBy (verdict classOf (twice x y)) (i + width) (j + width))
+    (λ _. pick-case Wholes (precedes y x) (aloneOf y i (j + width)) (verdictStep (verdict classOf (twice x y)) (i + width) (j + width))
     (λ _. by-verdict (verdict classOf (alone y)) i (j + width) h (omega arith))
     (λ _. by-verdict (verdict classOf (twice x y)) (i + width) (j + width) (omega arith) (omega arith)))
 
 pub start : (rs : List Finding) → Place rs 0
 start rs = record { whole = refl; within = omega arith }
 
-module _ (a : List Finding) (i : ℕ) (b : List Finding) (j : ℕ) (p : Place a i) (q : Place b j) (s : Stepped) (e : s ≡ stepOf (records (drop i (flat a))) i (records (drop j (flat b))) j) where
+module _ (a : List Finding) (i : ℕ) (b : List Finding) (j : ℕ) (p : Place a i) (q : Place b j) (s : Stepped) (e : s ≡ mergeStep (records (drop i (flat a))) i (records (drop j (flat b))) j) where
   wholes : (t : Stepped) → s ≡ t → Wholes t
   wholes t f = rw (← f, e) (step-wholes (records (drop i (flat a))) i (records (drop j (flat b))) j (p .whole) (q .whole))
 

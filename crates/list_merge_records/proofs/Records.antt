@@ -11,7 +11,7 @@ use Rattle.text_scan.specs.declared.Found.{Found}
 use Rattle.text_scan.specs.declared.Found.the-variants.{At, Nothing}
 use Rattle.list_findings.specs.declared.Finding.{Finding}
 use Rattle.list_findings.specs.Findings.{width, isValid, precedes, flat}
-use Rattle.list_findings.specs.Merge.{badAfter, origin, orElse, firstBad}
+use Rattle.list_findings.specs.Merge.{badAfter, origin, orElse, firstBadRecord}
 use Rattle.list_findings.proofs.Records.{records-flat, length-flat}
 use Rattle.list_merge_records.specs.Next.{nth}
 use Rattle.list_merge_records.proofs.Places.{left-here}
@@ -26,7 +26,7 @@ module _ (last next : Finding) (t : Bool) (e : t ≡ isValid next) where
 
 -- ---- the first that is not
 abbrev pub Bad : List Finding → Finding → ℕ → Type 0
-Bad rs last n = firstBad (flat rs) ≡ badAfter n last (drop n rs)
+Bad rs last n = firstBadRecord (flat rs) ≡ badAfter n last (drop n rs)
 
 or-nothing : (f : Found) → orElse f Nothing ≡ f
 or-nothing (At n) = refl
@@ -34,18 +34,18 @@ or-nothing Nothing = refl
 
 -- the numbers of records are in whole records
 pub bad-starts : (rs : List Finding) → Bad rs origin 0
-unfolding firstBad
+unfolding firstBadRecord
 bad-starts rs =
     let z : length (flat rs) % width ≡ 0 = omega (arith, length-flat rs) in
     rw (records-flat rs, z) (or-nothing (badAfter 0 origin rs))
 
 module _ (rs : List Finding) (last : Finding) (n : ℕ) (l : Bad rs last n) where
-  pub bad-over : length rs ≤ n → Nothing ≡ firstBad (flat rs)
+  pub bad-over : length rs ≤ n → Nothing ≡ firstBadRecord (flat rs)
   unfolding badAfter
   bad-over h = sym (l ∙ rw (drop-of-length-le rs h))
 
   module _ (h : n < length rs) (next : Finding) (e : next ≡ nth rs n) (t : Bool) (f : t ≡ (isValid next and precedes last next)) where
-    pub bad-here : t ≡ false → At n ≡ firstBad (flat rs)
+    pub bad-here : t ≡ false → At n ≡ firstBadRecord (flat rs)
     unfolding badAfter
     bad-here g = sym (l ∙ rw (left-here rs n h, ← e, ← f, g))
 

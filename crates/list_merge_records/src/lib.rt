@@ -7,8 +7,8 @@ ghost use lib.ListN.{length, drop};
 ghost use Rattle.text_scan.specs.Choice.{_and_};
 ghost use Rattle.text_scan.specs.declared.Found.{Found};
 ghost use Rattle.list_findings.specs.Findings.{width, isValid, precedes, records, flat, filled};
-ghost use Rattle.list_findings.specs.Merge.{firstBad, merged, firstFault, IsMerged};
-ghost use Rattle.list_merge_numbers.specs.Step.{stepOf, surveyOf};
+ghost use Rattle.list_findings.specs.Merge.{firstBadRecord, merged, firstFault, IsMerged};
+ghost use Rattle.list_merge_numbers.specs.Step.{mergeStep, surveyOf};
 ghost use Rattle.list_merge_records.specs.Next.{nth, nextOf, decideOf, Place};
 ghost use Rattle.list_merge_records.specs.Judge.{judgeOf};
 use list_findings::Finding;
@@ -62,7 +62,7 @@ fn decide(x: Next, i: usize, y: Next, j: usize) -> Stepped
 // The step at places i and j of two lists.
 fn step(a: &[Finding], i: usize, b: &[Finding], j: usize) -> Stepped
     requires { ⌜ Place (now a) i × Place (now b) j ⌝ }
-    ensures { λ r. ⌜ r ≡ stepOf (records (drop i (flat (now (a .entry))))) i (records (drop j (flat (now (b .entry))))) j ⌝ }
+    ensures { λ r. ⌜ r ≡ mergeStep (records (drop i (flat (now (a .entry))))) i (records (drop j (flat (now (b .entry))))) j ⌝ }
 {
     decide(next_at(a, i), i, next_at(b, j), j)
 }
@@ -79,7 +79,7 @@ fn follows(last: Finding, next: Finding) -> bool
 
 // The number of the first bad record.
 fn first_bad(list: &[Finding]) -> Found
-    ensures { λ r. ⌜ r ≡ firstBad (flat (now (list .entry))) ⌝ }
+    ensures { λ r. ⌜ r ≡ firstBadRecord (flat (now (list .entry))) ⌝ }
 {
     let mut last = Finding {
         procedure: 0,

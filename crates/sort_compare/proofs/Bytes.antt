@@ -13,10 +13,9 @@ use Rattle.text_scan.specs.Lists.{runEnd, runFrom}
 use Rattle.text_scan.proofs.Tests.{never}
 use Rattle.text_scan.proofs.Within.{inside, holds-there, drop-here}
 use Rattle.text_scan.proofs.Lists.{run-least}
-use Rattle.xml_names.specs.Names.{isNameStart, isNameChar, nameEnd}
+use Rattle.xml_names.specs.Names.{nameAt, isNameStart, isNameChar, nameEnd}
 use Rattle.sort_compare.specs.declared.Order.the-variants.{Less, Same, More}
 use Rattle.sort_compare.specs.Order.{order}
-use Rattle.sort_compare.specs.Keys.{nameOf}
 use Rattle.sort_compare.specs.Units.{byteIn}
 use Rattle.sort_compare.proofs.Ordering.{begun, begun-same, begun-goes, begun-less, begun-more}
 
@@ -72,7 +71,7 @@ rest-begun s i x e = go (isNameChar (getD s i 0)) refl e
 start-char : (b : ℕ) → isNameStart b ≡ true → isNameChar b ≡ true
 start-char b e = rw e
 
-pub name-begun : (s : List ℕ) (i x : ℕ) → x ≡ byteIn isNameStart s i → nameOf s i ≡ begun x (rest s (i + 1))
+pub name-begun : (s : List ℕ) (i x : ℕ) → x ≡ byteIn isNameStart s i → nameAt s i ≡ begun x (rest s (i + 1))
 unfolding nameEnd
 name-begun s i x e = go (isNameStart (getD s i 0)) refl e
   where
@@ -85,14 +84,14 @@ name-begun s i x e = go (isNameStart (getD s i 0)) refl e
 
 -- ---- the loop: the names compare as what is left of them, which goes on with the bytes x and y
 unfoldable pub Compares : List ℕ → ℕ → ℕ → ℕ → ℕ → ℕ → ℕ → Type 0
-Compares s a b i j x y = order (nameOf s a) (nameOf s b) ≡ order (begun x (rest s (i + 1))) (begun y (rest s (j + 1)))
+Compares s a b i j x y = order (nameAt s a) (nameAt s b) ≡ order (begun x (rest s (i + 1))) (begun y (rest s (j + 1)))
 
 pub compare-starts : (s : List ℕ) (a b x y : ℕ) → x ≡ byteIn isNameStart s a → y ≡ byteIn isNameStart s b → Compares s a b a b x y
 unfolding Compares
 compare-starts s a b x y e f = rw (name-begun s a x e, name-begun s b y f)
 
 module _ (s : List ℕ) (a b i j x y : ℕ) (l : Compares s a b i j x y) where
-  pub compare-same : x ≡ y → x ≡ 0 → Same ≡ order (nameOf s a) (nameOf s b)
+  pub compare-same : x ≡ y → x ≡ 0 → Same ≡ order (nameAt s a) (nameAt s b)
   unfolding Compares
   compare-same e z = sym (l ∙ begun-same x y (rest s (i + 1)) (rest s (j + 1)) e z)
 
@@ -101,11 +100,11 @@ module _ (s : List ℕ) (a b i j x y : ℕ) (l : Compares s a b i j x y) where
   compare-goes e z x′ y′ f g =
       l ∙ begun-goes x y (rest s (i + 1)) (rest s (j + 1)) e z ∙ rw (rest-begun s (i + 1) x′ f, rest-begun s (j + 1) y′ g)
 
-  pub compare-less : x < y → Less ≡ order (nameOf s a) (nameOf s b)
+  pub compare-less : x < y → Less ≡ order (nameAt s a) (nameAt s b)
   unfolding Compares
   compare-less h = sym (l ∙ begun-less x y (rest s (i + 1)) (rest s (j + 1)) h)
 
-  pub compare-more : (x ≡ y → ⊥) → y ≤ x → More ≡ order (nameOf s a) (nameOf s b)
+  pub compare-more : (x ≡ y → ⊥) → y ≤ x → More ≡ order (nameAt s a) (nameAt s b)
   unfolding Compares
   compare-more e h = sym (l ∙ begun-more x y (rest s (i + 1)) (rest s (j + 1)) (omega arith))
 

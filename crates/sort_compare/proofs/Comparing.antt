@@ -16,7 +16,7 @@ use Rattle.sort_compare.specs.declared.Order.{Order}
 use Rattle.sort_compare.specs.declared.Order.the-variants.{Less, Same, More}
 use Rattle.sort_compare.specs.declared.By.{By}
 use Rattle.sort_compare.specs.Order.{order, thenBy}
-use Rattle.sort_compare.specs.Fields.{isFeed, ends, frontField, after, shown, nextPlace, skipPlace, fieldsFrom, coded, rowKey}
+use Rattle.sort_compare.specs.Fields.{isFeed, ends, frontField, afterField, shown, nextPlace, skipPlace, fieldsFrom, coded, rowKey}
 use Rattle.sort_compare.specs.Keys.{keyAt}
 use Rattle.sort_compare.specs.Units.{alikeFrom, unitOf}
 use Rattle.sort_compare.proofs.Ordering.{compared, by-less, by-more, by-rest}
@@ -50,20 +50,20 @@ module _ (s : List ℕ) (n folded i : ℕ) where
       b : ℕ
       b = getD s i 0
 
-      after-goes : after (drop i s) ≡ after (drop (i + 1) s)
-      after-goes = unfold after in rw (drop-here s i h, or-left (isTab b) (isFeed b) e, or-right (isTab b) (isFeed b) e)
+      after-goes : afterField (drop i s) ≡ afterField (drop (i + 1) s)
+      after-goes = unfold afterField in rw (drop-here s i h, or-left (isTab b) (isFeed b) e, or-right (isTab b) (isFeed b) e)
 
   key-ends : frontField true (drop i s) ≡ [] → rowKey (suc n) folded (drop i s) ≡ 0 ∷ rowKey n folded (drop (nextPlace s i) s)
   unfolding rowKey fieldsFrom coded skipPlace
   key-ends e =
       let z : i + 0 ≡ i = omega arith in
-      let f : drop (nextPlace s i) s ≡ after (drop i s) = rw (e, z) at (drop-skip s i) in
+      let f : drop (nextPlace s i) s ≡ afterField (drop i s) = rw (e, z) at (drop-skip s i) in
       rw (e, shown-nil any, f)
 
   -- whatever it is, the unit there comes first
   key-first : rowKey (suc n) folded (drop i s) ≡ unitOf (shown any (frontField true (drop i s))) ∷ behind (rowKey (suc n) folded (drop i s))
   unfolding rowKey fieldsFrom coded
-  key-first = go (shown any (frontField true (drop i s))) (coded (fieldsFrom n folded (after (drop i s))))
+  key-first = go (shown any (frontField true (drop i s))) (coded (fieldsFrom n folded (afterField (drop i s))))
     where
       go : (f r : List ℕ) → map suc f ++ 0 ∷ r ≡ unitOf f ∷ behind (map suc f ++ 0 ∷ r)
       go [] r = refl
@@ -119,8 +119,8 @@ module _ (s : List ℕ) (a b fields folded i j left : ℕ) (l : RowsFrom s a b f
         pub rows-inside : (u ≡ 0 → ⊥) → (i < length s) × (j < length s)
         rows-inside z = (unit-inside true s i (eqb left folded) u eu z, unit-inside true s j (eqb left folded) w ew (λ e. z (sym same ∙ e)))
 
-        pub row-goes : (u ≡ 0 → ⊥) → RowsFrom s a b fields folded (i + 1) (j + 1) left
-        row-goes z =
+        pub chain-goes : (u ≡ 0 → ⊥) → RowsFrom s a b fields folded (i + 1) (j + 1) left
+        chain-goes z =
             let t = eqb left folded in
             let y : w ≡ 0 → ⊥ = λ e. z (sym same ∙ e) in
             on (unit-inside true s i t u eu z) (unit-inside true s j t w ew y) (unit-goes true s i t u eu z) (unit-goes true s j t w ew y)

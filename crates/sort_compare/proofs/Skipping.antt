@@ -12,7 +12,7 @@ use Rattle.text_scan.specs.Choice.{pick, _or_, not}
 use Rattle.text_scan.proofs.Tests.{pick-case}
 use Rattle.text_scan.proofs.Within.{holds-there}
 use Rattle.table_lines.specs.Lines.{isTab, front}
-use Rattle.sort_compare.specs.Fields.{isFeed, frontField, after, nextPlace, skipPlace}
+use Rattle.sort_compare.specs.Fields.{isFeed, frontField, afterField, nextPlace, skipPlace}
 
 -- ---- from the start
 -- one byte more in front
@@ -22,13 +22,13 @@ next-on true m b bs =
     rw e
 next-on false m b bs = refl
 
-front-next : (bs : List ℕ) → drop (nextPlace bs (length (frontField true bs))) bs ≡ after bs
-unfolding frontField front after nextPlace
+front-next : (bs : List ℕ) → drop (nextPlace bs (length (frontField true bs))) bs ≡ afterField bs
+unfolding frontField front afterField nextPlace
 front-next [] = refl
 front-next (b ∷ bs) = go (isTab b) (isFeed b) refl (front-next bs)
   where
-    go : (t u : Bool) → isTab b ≡ t → drop (nextPlace bs (length (frontField true bs))) bs ≡ after bs
-        → drop (nextPlace (b ∷ bs) (length (pick (not (t or u)) (b ∷ frontField true bs) []))) (b ∷ bs) ≡ pick t bs (pick u (b ∷ bs) (after bs))
+    go : (t u : Bool) → isTab b ≡ t → drop (nextPlace bs (length (frontField true bs))) bs ≡ afterField bs
+        → drop (nextPlace (b ∷ bs) (length (pick (not (t or u)) (b ∷ frontField true bs) []))) (b ∷ bs) ≡ pick t bs (pick u (b ∷ bs) (afterField bs))
     go true u e q = rw e
     go false true e q = rw e
     go false false e q = next-on (isTab (getD bs (length (frontField true bs)) 0)) (length (frontField true bs)) b bs ∙ q
@@ -44,7 +44,7 @@ next-shift s i n = rw (getD-drop i s n 0) (go (isTab (getD s (i + n) 0)))
         rw (drop-drop (n + 1) i s, e)
     go false = rw (drop-drop n i s)
 
-pub drop-skip : (s : List ℕ) (i : ℕ) → drop (skipPlace s i) s ≡ after (drop i s)
+pub drop-skip : (s : List ℕ) (i : ℕ) → drop (skipPlace s i) s ≡ afterField (drop i s)
 unfolding skipPlace
 drop-skip s i = next-shift s i (length (frontField true (drop i s))) ∙ front-next (drop i s)
 

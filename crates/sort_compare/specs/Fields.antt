@@ -22,9 +22,9 @@ unfoldable pub frontField : Bool → List ℕ → List ℕ
 frontField cut bs = front (λ b. not (ends cut b)) bs
 
 -- what follows the field in front and its tab; where the row ends with it, its end
-unfoldable pub after : List ℕ → List ℕ
-after [] = []
-after (b ∷ bs) = pick (isTab b) bs (pick (isFeed b) (b ∷ bs) (after bs))
+unfoldable pub afterField : List ℕ → List ℕ
+afterField [] = []
+afterField (b ∷ bs) = pick (isTab b) bs (pick (isFeed b) (b ∷ bs) (afterField bs))
 
 -- the place where that starts, where the field ends at i
 unfoldable pub nextPlace : List ℕ → ℕ → ℕ
@@ -42,7 +42,7 @@ shown false bs = bs
 -- n fields in front of a byte string; the one with which `folded` are left in any case of letters
 unfoldable pub fieldsFrom : ℕ → ℕ → List ℕ → List (List ℕ)
 fieldsFrom zero folded bs = []
-fieldsFrom (suc n) folded bs = shown (eqb (suc n) folded) (frontField true bs) ∷ fieldsFrom n folded (after bs)
+fieldsFrom (suc n) folded bs = shown (eqb (suc n) folded) (frontField true bs) ∷ fieldsFrom n folded (afterField bs)
 
 -- several strings as one, each followed by a 0 that stands in none of them: they are ordered by the first, then by the second, and so on
 unfoldable pub coded : List (List ℕ) → List ℕ

@@ -1,9 +1,9 @@
 // Which of two positions of a byte string comes first: by the names that start there, or by fields of the rows that start there. No comparison reads
 // further than the first difference.
 ghost use mathlib.Core.Path.{_≡_};
-ghost use Rattle.xml_names.specs.Names.{isNameStart, isNameChar};
+ghost use Rattle.xml_names.specs.Names.{nameAt, isNameStart, isNameChar};
 ghost use Rattle.sort_compare.specs.Order.{order};
-ghost use Rattle.sort_compare.specs.Keys.{nameOf, keyAt};
+ghost use Rattle.sort_compare.specs.Keys.{keyAt};
 ghost use Rattle.sort_compare.specs.Units.{byteIn};
 
 mod fields;
@@ -57,7 +57,7 @@ fn next_byte(s: &[u8], i: usize) -> u8
 
 // Which of the names at two places comes first.
 fn compare_names(s: &[u8], a: u32, b: u32) -> Order
-    ensures { λ r. ⌜ r ≡ order (nameOf (now (s .entry)) a) (nameOf (now (s .entry)) b) ⌝ }
+    ensures { λ r. ⌜ r ≡ order (nameAt (now (s .entry)) a) (nameAt (now (s .entry)) b) ⌝ }
 {
     let mut i = a as usize;
     let mut j = b as usize;

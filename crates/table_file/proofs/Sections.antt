@@ -13,7 +13,7 @@ use Rattle.table_file.specs.declared.Counted.{Counted}
 use Rattle.table_file.specs.declared.Ended.{Ended}
 use Rattle.table_file.specs.declared.Section.{Section}
 use Rattle.table_file.specs.declared.Accepted.{Accepted}
-use Rattle.table_file.specs.Accepted.{isRow, countOf, rowsEnd, sectionAt, refusalOf, accepted}
+use Rattle.table_file.specs.Accepted.{isRow, countOf, rowsEnd, sectionAt, sectionRefused, accepted}
 
 -- ---- rows
 abbrev pub InRows : Kind → List ℕ → ℕ → ℕ → ℕ → ℕ → Type 0
@@ -64,24 +64,24 @@ module _ (kind : Kind) (s : List ℕ) (at e : ℕ) (q : e ≡ lineEnd s at) wher
       section-refused i v = rw (← q, lt-ltb e (length s) g, ← r, f, ← q, ← w, v)
 
 -- ---- the file
-pub refused-in : (x : Section) (i : ℕ) → x ≡ Section.Refused i → Accepted.Refused i ≡ refusalOf x
+pub refused-in : (x : Section) (i : ℕ) → x ≡ Section.Refused i → Accepted.Refused i ≡ sectionRefused x
 refused-in x i e = rw e
 
-pub refused-after : (x : Section) (a n i : ℕ) → x ≡ Section.Rows a n i → Accepted.Refused i ≡ refusalOf x
+pub refused-after : (x : Section) (a n i : ℕ) → x ≡ Section.Rows a n i → Accepted.Refused i ≡ sectionRefused x
 refused-after x a n i e = rw e
 
 module _ (s : List ℕ) (x : Section) (ex : x ≡ sectionAt Kind.CodeList s 0) where
-  pub no-code-list : (p : ℕ) (r : Accepted) → x ≡ Section.Refused p → r ≡ refusalOf x → r ≡ accepted s
+  pub no-code-list : (p : ℕ) (r : Accepted) → x ≡ Section.Refused p → r ≡ sectionRefused x → r ≡ accepted s
   unfolding accepted
   no-code-list p r e f = rw (f, ← ex, e)
 
   module _ (c cs i : ℕ) (fx : x ≡ Section.Rows c cs i) (y : Section) (ey : y ≡ sectionAt Kind.Register s i) where
-    pub no-register : (p : ℕ) (r : Accepted) → y ≡ Section.Refused p → r ≡ refusalOf y → r ≡ accepted s
+    pub no-register : (p : ℕ) (r : Accepted) → y ≡ Section.Refused p → r ≡ sectionRefused y → r ≡ accepted s
     unfolding accepted
     no-register p r e f = rw (f, ← ex, fx, ← ey, e)
 
     module _ (n ns j : ℕ) (fy : y ≡ Section.Rows n ns j) (z : Section) (ez : z ≡ sectionAt Kind.History s j) where
-      pub no-history : (p : ℕ) (r : Accepted) → z ≡ Section.Refused p → r ≡ refusalOf z → r ≡ accepted s
+      pub no-history : (p : ℕ) (r : Accepted) → z ≡ Section.Refused p → r ≡ sectionRefused z → r ≡ accepted s
       unfolding accepted
       no-history p r e f = rw (f, ← ex, fx, ← ey, fy, ← ez, e)
 

@@ -9,7 +9,7 @@ use lib.ListN.{length, getD}
 use Rattle.text_scan.specs.Choice.{pick, _or_, _and_, not}
 use Rattle.text_scan.specs.Bytes.{isDigit}
 use Rattle.text_scan.specs.Lists.{every}
-use Rattle.text_numbers.specs.Numbers.{valueOf, versionOf}
+use Rattle.text_numbers.specs.Numbers.{decimalOf, versionOf}
 use Rattle.xml_reader.specs.Limits.{rowLimit, rowsLimit}
 use Rattle.table_lines.specs.Lines.{Row, field, fieldsOf, areFields, lineEnd, hasFeed, lineAt, rowsAt}
 use Rattle.table_file.specs.declared.Kind.{Kind}
@@ -35,10 +35,10 @@ isRow kind line = leb (length line) rowLimit and areFields (fieldsOf line) and i
 unfoldable pub isCount : List ℕ → Bool
 isCount line =
     not (eqb (length line) 0) and every isDigit line and (eqb (length line) 1 or not (eqb (getD line 0 0) (code "0")))
-    and leb (valueOf line) rowsLimit
+    and leb (decimalOf line) rowsLimit
 
 unfoldable pub countOf : List ℕ → Counted
-countOf line = pick (isCount line) (Counted.Rows (valueOf line)) Counted.Bad
+countOf line = pick (isCount line) (Counted.Rows (decimalOf line)) Counted.Bad
 
 -- ---- a section
 -- n rows from the line at i on: the place after them, or that of the first bad line, which is the length if the line lacks its line feed
@@ -64,9 +64,9 @@ sectionAt kind s i = pick (hasFeed s i) (countedAt kind s i (countOf (lineAt s i
 
 -- ---- the file
 -- the place where a section is refused, or of what follows it
-abbrev pub refusalOf : Section → Accepted
-refusalOf (Section.Rows first count i) = Accepted.Refused i
-refusalOf (Section.Refused i) = Accepted.Refused i
+abbrev pub sectionRefused : Section → Accepted
+sectionRefused (Section.Rows first count i) = Accepted.Refused i
+sectionRefused (Section.Refused i) = Accepted.Refused i
 
 -- what follows each section, with the place and the count of the rows so far
 abbrev pub afterHistory : List ℕ → ℕ → ℕ → ℕ → ℕ → Section → Accepted

@@ -1,7 +1,7 @@
 // The tables file: whether it keeps the rules, and where the rows of its three sections stand.
 ghost use mathlib.Core.Path.{_≡_};
 ghost use Rattle.table_lines.specs.Lines.{fieldCount};
-ghost use Rattle.table_file.specs.Accepted.{isRow, countOf, rowsEnd, sectionAt, refusalOf, accepted};
+ghost use Rattle.table_file.specs.Accepted.{isRow, countOf, rowsEnd, sectionAt, sectionRefused, accepted};
 use xml_reader::Reader;
 
 // The three sections.
@@ -142,7 +142,7 @@ fn section_at(kind: Kind, s: &[u8], at: usize) -> Section
 
 // The refusal where a section is refused, or where something follows the last.
 fn refusal(section: Section) -> Accepted
-    ensures { λ r. ⌜ r ≡ refusalOf section ⌝ }
+    ensures { λ r. ⌜ r ≡ sectionRefused section ⌝ }
 {
     match section {
         Section::Refused(place) => Accepted::Refused(place),

@@ -14,7 +14,7 @@ use Rattle.text_scan.proofs.Tests.{never}
 use Rattle.table_lines.specs.Lines.{Row, other, isTab, field, fieldsOf, lineAt, front}
 use Rattle.table_lines.proofs.Runs.{before}
 use Rattle.table_lines.proofs.Fields.{first-more, later-more}
-use Rattle.sort_compare.specs.Fields.{isFeed, frontField, after, shown, skipPlace, fieldsFrom, coded, rowKey}
+use Rattle.sort_compare.specs.Fields.{isFeed, frontField, afterField, shown, skipPlace, fieldsFrom, coded, rowKey}
 use Rattle.sort_compare.specs.Keys.{keyAt}
 use Rattle.sort_compare.proofs.Skipping.{drop-skip, skip-low}
 use Rattle.table_index.specs.declared.Lookup.{Lookup}
@@ -42,13 +42,13 @@ first (b ∷ bs) = go (isTab b) (isFeed b) refl (first bs)
     go false true e q = refl
     go false false e q = rw e (first-more b (rowIn bs) ∙ ap (λ (f : List ℕ). b ∷ f) q)
 
-later : (k : ℕ) (bs : List ℕ) → field (rowIn bs) (suc k) ≡ field (rowIn (after bs)) k
-unfolding fieldsOf front after
+later : (k : ℕ) (bs : List ℕ) → field (rowIn bs) (suc k) ≡ field (rowIn (afterField bs)) k
+unfolding fieldsOf front afterField
 later k [] = sym (empty-row k)
 later k (b ∷ bs) = go (isTab b) (isFeed b) refl refl (later k bs)
   where
-    go : (t u : Bool) → isTab b ≡ t → isFeed b ≡ u → field (rowIn bs) (suc k) ≡ field (rowIn (after bs)) k
-        → field (fieldsOf (pick (not u) (b ∷ front (other 10) bs) [])) (suc k) ≡ field (rowIn (pick t bs (pick u (b ∷ bs) (after bs)))) k
+    go : (t u : Bool) → isTab b ≡ t → isFeed b ≡ u → field (rowIn bs) (suc k) ≡ field (rowIn (afterField bs)) k
+        → field (fieldsOf (pick (not u) (b ∷ front (other 10) bs) [])) (suc k) ≡ field (rowIn (pick t bs (pick u (b ∷ bs) (afterField bs)))) k
     go true true e f q = never (sym f ∙ rw (eqb-true b 9 e))
     go true false e f q = rw e
     go false true e f q = rw f (sym (empty-row k))
@@ -57,11 +57,11 @@ later k (b ∷ bs) = go (isTab b) (isFeed b) refl refl (later k bs)
 -- what follows k fields
 abbrev afters : ℕ → List ℕ → List ℕ
 afters zero bs = bs
-afters (suc k) bs = afters k (after bs)
+afters (suc k) bs = afters k (afterField bs)
 
 field-in : (k : ℕ) (bs : List ℕ) → field (rowIn bs) k ≡ frontField true (afters k bs)
 field-in zero bs = first bs
-field-in (suc k) bs = later k bs ∙ field-in k (after bs)
+field-in (suc k) bs = later k bs ∙ field-in k (afterField bs)
 
 -- ---- the key of a row stands at its place
 drop-four : (s : List ℕ) (i : ℕ) → drop (skipPlace s (skipPlace s (skipPlace s (skipPlace s i)))) s ≡ afters 4 (drop i s)

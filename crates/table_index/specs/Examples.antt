@@ -9,7 +9,7 @@ use Rattle.text_scan.specs.Lists.{pairs}
 use Rattle.text_facts.specs.Strings.{equal}
 use Rattle.table_lines.specs.Lines.{Row, front}
 use Rattle.table_index.specs.declared.Lookup.{Lookup}
-use Rattle.sort_compare.specs.Fields.{frontField, after, shown, nextPlace, skipPlace, fieldsFrom, coded, rowKey}
+use Rattle.sort_compare.specs.Fields.{frontField, afterField, shown, nextPlace, skipPlace, fieldsFrom, coded, rowKey}
 use Rattle.sort_compare.specs.Keys.{keyAt}
 use Rattle.table_index.specs.Indexed.{byOf, keepsRow, keyFrom, keyOf, keyPlace}
 
@@ -18,7 +18,7 @@ row = text "51726-8" ∷ text "s" ∷ text "2" ∷ text "d1" ∷ text "1234" ∷
 
 -- what a row of a history is ordered by is its key, at byte 15 of it
 keys : keyAt (byOf Lookup.KeyElsewhere) (text "51726-8\ts\t2\td1\t1234\n") (keyPlace Lookup.KeyElsewhere (text "51726-8\ts\t2\td1\t1234\n") 0) ≡ keyOf Lookup.KeyElsewhere row
-unfolding keyPlace skipPlace nextPlace byOf rowKey fieldsFrom frontField front shown after coded keyOf keyFrom
+unfolding keyPlace skipPlace nextPlace byOf rowKey fieldsFrom frontField front shown afterField coded keyOf keyFrom
 keys = refl
 
 -- it is kept for another set id only

@@ -12,7 +12,7 @@ use Rattle.text_scan.specs.Choice.{_and_, _or_, not}
 use Rattle.text_scan.specs.Bytes.{isDigit}
 use Rattle.text_scan.specs.Lists.{every}
 use Rattle.text_scan.proofs.Tests.{never, and-left, and-right, or-true, within}
-use Rattle.text_numbers.specs.Numbers.{valueAfter, valueOf}
+use Rattle.text_numbers.specs.Numbers.{valueAfter, decimalOf}
 use Rattle.xml_reader.specs.Limits.{rowsLimit}
 use Rattle.table_file.specs.Accepted.{isCount}
 use Rattle.table_join.specs.Written.{digit, digits, decimal}
@@ -50,13 +50,13 @@ unfolding valueAfter
 snoc-value v b [] = refl
 snoc-value v b (x ∷ xs) = snoc-value (v * 10 + (x - 48)) b xs
 
-pub value-written : (n : ℕ) → valueOf (decimal n) ≡ n
-value-written n = by-digits (λ (m : ℕ) (ds : List ℕ). valueOf ds ≡ m) one more n n (omega arith)
+pub value-written : (n : ℕ) → decimalOf (decimal n) ≡ n
+value-written n = by-digits (λ (m : ℕ) (ds : List ℕ). decimalOf ds ≡ m) one more n n (omega arith)
   where
-    one : (m : ℕ) → m < 10 → valueOf (digit m) ≡ m
+    one : (m : ℕ) → m < 10 → decimalOf (digit m) ≡ m
     one m h = unfold valueAfter in omega arith
 
-    more : (m : ℕ) (ds : List ℕ) → 10 ≤ m → valueOf ds ≡ m / 10 → valueOf (ds ++ digit (m % 10)) ≡ m
+    more : (m : ℕ) (ds : List ℕ) → 10 ≤ m → decimalOf ds ≡ m / 10 → decimalOf (ds ++ digit (m % 10)) ≡ m
     more m ds h e = snoc-value 0 (m % 10 + 48) ds ∙ rw e (omega arith)
 
 is-digit : (n : ℕ) → n < 10 → every isDigit (digit n) ≡ true
@@ -146,18 +146,18 @@ module _ (line : List ℕ) (e : isCount line ≡ true) where
   read-digits : every isDigit line ≡ true
   read-digits =
       unfold isCount in
-      second (not (eqb (length line) 0)) (every isDigit line) (eqb (length line) 1 or not (eqb (getD line 0 0) 48)) (leb (valueOf line) rowsLimit) e
+      second (not (eqb (length line) 0)) (every isDigit line) (eqb (length line) 1 or not (eqb (getD line 0 0) 48)) (leb (decimalOf line) rowsLimit) e
 
   read-first : eqb (length line) 1 or not (eqb (getD line 0 0) 48) ≡ true
   read-first =
       unfold isCount in
-      third (not (eqb (length line) 0)) (every isDigit line) (eqb (length line) 1 or not (eqb (getD line 0 0) 48)) (leb (valueOf line) rowsLimit) e
+      third (not (eqb (length line) 0)) (every isDigit line) (eqb (length line) 1 or not (eqb (getD line 0 0) 48)) (leb (decimalOf line) rowsLimit) e
 
-  pub read-most : valueOf line ≤ rowsLimit
+  pub read-most : decimalOf line ≤ rowsLimit
   read-most =
-      leb-true (valueOf line) rowsLimit
+      leb-true (decimalOf line) rowsLimit
       (unfold isCount in
-      fourth (not (eqb (length line) 0)) (every isDigit line) (eqb (length line) 1 or not (eqb (getD line 0 0) 48)) (leb (valueOf line) rowsLimit) e)
+      fourth (not (eqb (length line) 0)) (every isDigit line) (eqb (length line) 1 or not (eqb (getD line 0 0) 48)) (leb (decimalOf line) rowsLimit) e)
 
 first-digit : (b : ℕ) → isDigit b ≡ true → decimal (0 * 10 + (b - 48)) ≡ b ∷ []
 first-digit b e =
@@ -168,7 +168,7 @@ first-digit b e =
 no-zero : (b : ℕ) (t : Bool) → t ≡ false → t or not (eqb b 48) ≡ true → b ≡ 48 → ⊥
 no-zero b t e f = eqb-false b 48 (not-true (eqb b 48) (rw e at f))
 
-pub count-read : (line : List ℕ) → isCount line ≡ true → decimal (valueOf line) ≡ line
+pub count-read : (line : List ℕ) → isCount line ≡ true → decimal (decimalOf line) ≡ line
 unfolding every valueAfter isCount
 count-read [] e = never (sym e)
 count-read (b ∷ []) e = first-digit b (and-left (isDigit b) true (read-digits (b ∷ []) e))

@@ -17,44 +17,44 @@ use Rattle.table_lines.specs.Lines.{Row, field, other, isTab, inFirst, fieldsOf
 use Rattle.table_lines.proofs.Counting.{some-field}
 use Rattle.table_file.specs.declared.Kind.{Kind}
 use Rattle.table_file.specs.Accepted.{isOf, isRow}
-use Rattle.table_join.specs.Written.{lineOf, isPlain, arePlain, isGoodRow}
+use Rattle.table_join.specs.Written.{lineOf, isFieldByte, arePlain, isGoodRow}
 use Rattle.table_join.proofs.Lists.{and-both, every-joined, every-weaker}
 
-no-tab : (b : ℕ) → isPlain b ≡ true → isTab b ≡ false
+no-tab : (b : ℕ) → isFieldByte b ≡ true → isTab b ≡ false
 no-tab b e = not-true (eqb b 9) (and-left (not (eqb b 9)) (not (eqb b 10)) e)
 
 -- ---- written, and read again
-read-last : (f : List ℕ) → every isPlain f ≡ true → fieldsOf f ≡ f ∷ []
+read-last : (f : List ℕ) → every isFieldByte f ≡ true → fieldsOf f ≡ f ∷ []
 unfolding every fieldsOf
 read-last [] e = refl
 read-last (b ∷ f) e =
-    rw (no-tab b (and-left (isPlain b) (every isPlain f) e), read-last f (and-right (isPlain b) (every isPlain f) e))
+    rw (no-tab b (and-left (isFieldByte b) (every isFieldByte f) e), read-last f (and-right (isFieldByte b) (every isFieldByte f) e))
 
-read-first : (f rest : List ℕ) → every isPlain f ≡ true → fieldsOf (f ++ 9 ∷ rest) ≡ f ∷ fieldsOf rest
+read-first : (f rest : List ℕ) → every isFieldByte f ≡ true → fieldsOf (f ++ 9 ∷ rest) ≡ f ∷ fieldsOf rest
 unfolding every fieldsOf
 read-first [] rest e = refl
 read-first (b ∷ f) rest e =
-    rw (no-tab b (and-left (isPlain b) (every isPlain f) e), read-first f rest (and-right (isPlain b) (every isPlain f) e))
+    rw (no-tab b (and-left (isFieldByte b) (every isFieldByte f) e), read-first f rest (and-right (isFieldByte b) (every isFieldByte f) e))
 
 pub fields-written : (row : Row) → 0 < length row → arePlain row ≡ true → fieldsOf (lineOf row) ≡ row
 unfolding lineOf arePlain
 fields-written [] h e = absurd (omega arith)
-fields-written (f ∷ []) h e = read-last f (and-left (every isPlain f) true e)
+fields-written (f ∷ []) h e = read-last f (and-left (every isFieldByte f) true e)
 fields-written (f ∷ g ∷ fs) h e =
-    read-first f (lineOf (g ∷ fs)) (and-left (every isPlain f) (arePlain (g ∷ fs)) e)
-    ∙ ap (λ (r : Row). f ∷ r) (fields-written (g ∷ fs) (omega arith) (and-right (every isPlain f) (arePlain (g ∷ fs)) e))
+    read-first f (lineOf (g ∷ fs)) (and-left (every isFieldByte f) (arePlain (g ∷ fs)) e)
+    ∙ ap (λ (r : Row). f ∷ r) (fields-written (g ∷ fs) (omega arith) (and-right (every isFieldByte f) (arePlain (g ∷ fs)) e))
 
-no-feed : (f : List ℕ) → every isPlain f ≡ true → every (other 10) f ≡ true
-no-feed f e = every-weaker isPlain (other 10) (λ b p. and-right (not (eqb b 9)) (not (eqb b 10)) p) f e
+no-feed : (f : List ℕ) → every isFieldByte f ≡ true → every (other 10) f ≡ true
+no-feed f e = every-weaker isFieldByte (other 10) (λ b p. and-right (not (eqb b 9)) (not (eqb b 10)) p) f e
 
 -- a row that is written has no line feed in it
 pub line-written : (row : Row) → arePlain row ≡ true → every (other 10) (lineOf row) ≡ true
 unfolding every lineOf arePlain
 line-written [] e = refl
-line-written (f ∷ []) e = no-feed f (and-left (every isPlain f) true e)
+line-written (f ∷ []) e = no-feed f (and-left (every isFieldByte f) true e)
 line-written (f ∷ g ∷ fs) e =
-    every-joined (other 10) f (9 ∷ lineOf (g ∷ fs)) (no-feed f (and-left (every isPlain f) (arePlain (g ∷ fs)) e))
-    (line-written (g ∷ fs) (and-right (every isPlain f) (arePlain (g ∷ fs)) e))
+    every-joined (other 10) f (9 ∷ lineOf (g ∷ fs)) (no-feed f (and-left (every isFieldByte f) (arePlain (g ∷ fs)) e))
+    (line-written (g ∷ fs) (and-right (every isFieldByte f) (arePlain (g ∷ fs)) e))
 
 -- ---- read, and written again
 more-first : (b : ℕ) (fs : Row) → 0 < length fs → lineOf (inFirst b fs) ≡ b ∷ lineOf fs
@@ -82,7 +82,7 @@ unfolding every fieldsOf arePlain
 fields-plain [] e = refl
 fields-plain (b ∷ bs) e = go (isTab b) refl (fieldsOf bs) (some-field bs) (fields-plain bs (and-right (other 10 b) (every (other 10) bs) e))
   where
-    more : (fs : Row) → isPlain b ≡ true → 0 < length fs → arePlain fs ≡ true → arePlain (inFirst b fs) ≡ true
+    more : (fs : Row) → isFieldByte b ≡ true → 0 < length fs → arePlain fs ≡ true → arePlain (inFirst b fs) ≡ true
     more [] p h f = absurd (omega arith)
     more (g ∷ gs) p h f = rw p f
 

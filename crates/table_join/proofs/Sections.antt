@@ -12,7 +12,7 @@ use Rattle.text_scan.specs.Choice.{pick}
 use Rattle.text_scan.specs.Bytes.{isDigit}
 use Rattle.text_scan.specs.Lists.{every}
 use Rattle.text_scan.proofs.Tests.{and-left, and-right}
-use Rattle.text_numbers.specs.Numbers.{valueOf}
+use Rattle.text_numbers.specs.Numbers.{decimalOf}
 use Rattle.xml_reader.specs.Limits.{rowsLimit}
 use Rattle.table_lines.specs.Lines.{Row, other, lineEnd, hasFeed, lineAt, rowsAt}
 use Rattle.table_file.specs.declared.Kind.{Kind}
@@ -96,9 +96,9 @@ count-said : (line : List ℕ) (n : ℕ) → countOf line ≡ Counted.Rows n →
 unfolding countOf
 count-said line n e = go (isCount line) refl e
   where
-    go : (t : Bool) → isCount line ≡ t → pick t (Counted.Rows (valueOf line)) Counted.Bad ≡ Counted.Rows n → (n ≤ rowsLimit) × (line ≡ decimal n)
+    go : (t : Bool) → isCount line ≡ t → pick t (Counted.Rows (decimalOf line)) Counted.Bad ≡ Counted.Rows n → (n ≤ rowsLimit) × (line ≡ decimal n)
     go true q f =
-        let v : valueOf line ≡ n = cc in
+        let v : decimalOf line ≡ n = cc in
         (omega (arith, read-most line q), sym (ap decimal (sym v) ∙ count-read line q))
     go false q f = absurd (let z : _≡_ {A = ℕ} 0 1 = cc in omega arith)
 

@@ -49,12 +49,12 @@ written t = writtenSection (t .codes) ++ (writtenSection (t .names) ++ writtenSe
 
 -- ---- what can be written
 -- a field has any bytes but tab, line feed and, by `areFields`, carriage return
-abbrev pub isPlain : ℕ → Bool
-isPlain b = other (code "\t") b and other (code "\n") b
+abbrev pub isFieldByte : ℕ → Bool
+isFieldByte b = other (code "\t") b and other (code "\n") b
 
 unfoldable pub arePlain : Row → Bool
 arePlain [] = true
-arePlain (f ∷ fs) = every isPlain f and arePlain fs
+arePlain (f ∷ fs) = every isFieldByte f and arePlain fs
 
 unfoldable pub isGoodRow : Kind → Row → Bool
 isGoodRow kind row = arePlain row and leb (length (lineOf row)) rowLimit and areFields row and isOf kind row

@@ -13,7 +13,7 @@ use Rattle.text_scan.specs.Bytes.{lower}
 use Rattle.sort_compare.specs.declared.Order.{Order}
 use Rattle.sort_compare.specs.declared.Order.the-variants.{Less, Same, More}
 use Rattle.sort_compare.specs.Order.{order, thenBy}
-use Rattle.sort_compare.specs.Fields.{frontField, after, shown, nextPlace, skipPlace, fieldsFrom, coded, rowKey}
+use Rattle.sort_compare.specs.Fields.{frontField, afterField, shown, nextPlace, skipPlace, fieldsFrom, coded, rowKey}
 use Rattle.sort_compare.specs.Keys.{keyAt}
 use Rattle.sort_compare.proofs.Skipping.{part-most, drop-skip}
 use Rattle.sort_compare.proofs.Ordering.{order-same}
@@ -68,31 +68,31 @@ module _ (s : List ℕ) (at : ℕ) (a b : List ℕ) (folded : ℕ) (o : Order) (
 
   pub two-less : o ≡ Less → Less ≡ order (rowKey 2 folded (drop at s)) two
   unfolding rowKey fieldsFrom
-  two-less = first-less (shown (eqb 2 folded) (frontField true (drop at s))) (shown (eqb 2 folded) a) (fieldsFrom 1 folded (after (drop at s))) (shown (eqb 1 folded) b ∷ []) o e
+  two-less = first-less (shown (eqb 2 folded) (frontField true (drop at s))) (shown (eqb 2 folded) a) (fieldsFrom 1 folded (afterField (drop at s))) (shown (eqb 1 folded) b ∷ []) o e
 
   pub two-more : o ≡ More → More ≡ order (rowKey 2 folded (drop at s)) two
   unfolding rowKey fieldsFrom
-  two-more = first-more (shown (eqb 2 folded) (frontField true (drop at s))) (shown (eqb 2 folded) a) (fieldsFrom 1 folded (after (drop at s))) (shown (eqb 1 folded) b ∷ []) o e
+  two-more = first-more (shown (eqb 2 folded) (frontField true (drop at s))) (shown (eqb 2 folded) a) (fieldsFrom 1 folded (afterField (drop at s))) (shown (eqb 1 folded) b ∷ []) o e
 
   pub two-same : o ≡ Same → (p : ℕ) → p ≡ nextPlace s (at + length a) → (r : Order) → r ≡ order (shown (eqb 1 folded) (frontField true (drop p s))) (shown (eqb 1 folded) b) → r ≡ order (rowKey 2 folded (drop at s)) two
   unfolding rowKey fieldsFrom
   two-same l p f r g =
       g ∙ rw (f, next-is s at a (eqb 2 folded) o e l, drop-skip s at)
-      (sym (order-last (shown (eqb 1 folded) (frontField true (after (drop at s)))) (shown (eqb 1 folded) b))
-      ∙ sym (first-same (shown (eqb 2 folded) (frontField true (drop at s))) (shown (eqb 2 folded) a) (fieldsFrom 1 folded (after (drop at s))) (shown (eqb 1 folded) b ∷ []) o e l))
+      (sym (order-last (shown (eqb 1 folded) (frontField true (afterField (drop at s)))) (shown (eqb 1 folded) b))
+      ∙ sym (first-same (shown (eqb 2 folded) (frontField true (drop at s))) (shown (eqb 2 folded) a) (fieldsFrom 1 folded (afterField (drop at s))) (shown (eqb 1 folded) b ∷ []) o e l))
 
 module _ (s : List ℕ) (at : ℕ) (a b c : List ℕ) (o : Order) (e : o ≡ order (shown false (frontField true (drop at s))) (shown false a)) where
   pub code-less : o ≡ Less → Less ≡ order (rowKey 3 1 (drop at s)) (keyFrom Lookup.Code a b c)
   unfolding rowKey fieldsFrom keyFrom shown
-  code-less = first-less (frontField true (drop at s)) a (fieldsFrom 2 1 (after (drop at s))) (b ∷ shown true c ∷ []) o e
+  code-less = first-less (frontField true (drop at s)) a (fieldsFrom 2 1 (afterField (drop at s))) (b ∷ shown true c ∷ []) o e
 
   pub code-more : o ≡ More → More ≡ order (rowKey 3 1 (drop at s)) (keyFrom Lookup.Code a b c)
   unfolding rowKey fieldsFrom keyFrom shown
-  code-more = first-more (frontField true (drop at s)) a (fieldsFrom 2 1 (after (drop at s))) (b ∷ shown true c ∷ []) o e
+  code-more = first-more (frontField true (drop at s)) a (fieldsFrom 2 1 (afterField (drop at s))) (b ∷ shown true c ∷ []) o e
 
   pub code-same : o ≡ Same → (p : ℕ) → p ≡ nextPlace s (at + length a) → (r : Order) → r ≡ order (rowKey 2 1 (drop p s)) (coded (shown (eqb 2 1) b ∷ shown (eqb 1 1) c ∷ [])) → r ≡ order (rowKey 3 1 (drop at s)) (keyFrom Lookup.Code a b c)
   unfolding rowKey fieldsFrom keyFrom shown
-  code-same l p f r g = g ∙ rw (f, next-is s at a false o e l, drop-skip s at) (sym (first-same (frontField true (drop at s)) a (fieldsFrom 2 1 (after (drop at s))) (b ∷ shown true c ∷ []) o e l))
+  code-same l p f r g = g ∙ rw (f, next-is s at a false o e l, drop-skip s at) (sym (first-same (frontField true (drop at s)) a (fieldsFrom 2 1 (afterField (drop at s))) (b ∷ shown true c ∷ []) o e l))
 
 -- ---- by the lookup
 module _ (q : Lookup) (s : List ℕ) (at : ℕ) (a b c : List ℕ) (r : Order) where

@@ -16,7 +16,7 @@ use Rattle.text_scan.specs.Walk.{skip, from}
 use Rattle.text_scan.proofs.Tests.{pick-case, and-right, within}
 use Rattle.text_scan.proofs.Within.{holds-there}
 use Rattle.text_scan.proofs.Walk as walks
-use Rattle.text_chars.specs.Utf8.{isXmlChar, Char, none, char, sound, tail, decode, charAt, widthOf, stepBy, steps, mark, firstBad}
+use Rattle.text_chars.specs.Utf8.{isXmlChar, Char, none, char, sound, tail, decode, charAt, widthOf, charStep, steps, mark, firstBad}
 use Rattle.text_chars.proofs.Chars.{first}
 
 -- ---- a character that stands at a position ends within the list
@@ -81,10 +81,10 @@ module _ (s : List ℕ) (i : ℕ) where
   goes zero a h e z = absurd (z refl)
   goes (suc w) a h e z =
       let f : i + 1 + w ≡ i + suc w = omega arith in
-      a ∙ (rw f at (walks.goes (steps s) (length s) (length s) i w (omega (arith, fits s i h)) (ap (stepBy i) (sym e))))
+      a ∙ (rw f at (walks.goes (steps s) (length s) (length s) i w (omega (arith, fits s i h)) (ap (charStep i) (sym e))))
 
   pub stops : (w : ℕ) → At s i → i < length s → w ≡ widthOf (charAt s i) → w ≡ 0 → i ≡ firstBad s
-  stops w a h e z = sym (a ∙ walks.stops (steps s) (length s) (length s) i i h (ap (stepBy i) (sym e ∙ z)))
+  stops w a h e z = sym (a ∙ walks.stops (steps s) (length s) (length s) i i h (ap (charStep i) (sym e ∙ z)))
 
   pub ends : At s i → length s ≤ i → length s ≡ firstBad s
   ends a h = sym (a ∙ walks.ends (steps s) (length s) (length s) i h)

@@ -48,12 +48,12 @@ widthOf none = 0
 widthOf (char w c) = w
 
 -- where no character stands the walk is done, at that position; else it goes on behind the character
-abbrev pub stepBy : ℕ → ℕ → Next ℕ
-stepBy i zero = done i
-stepBy i (suc w) = skip w
+abbrev pub charStep : ℕ → ℕ → Next ℕ
+charStep i zero = done i
+charStep i (suc w) = skip w
 
 abbrev pub steps : List ℕ → ℕ → Next ℕ
-steps s i = stepBy i (widthOf (charAt s i))
+steps s i = charStep i (widthOf (charAt s i))
 
 -- the byte order mark, which is U+FEFF
 abbrev pub mark : List ℕ

@@ -12,7 +12,7 @@ use Rattle.text_scan.specs.Bytes.{isDigit}
 use Rattle.text_scan.specs.Lists.{every}
 use Rattle.text_scan.proofs.Tests.{under, over, within}
 use Rattle.text_scan.proofs.Lists.{every-take, every-drop}
-use Rattle.text_numbers.specs.Numbers.{valueOf}
+use Rattle.text_numbers.specs.Numbers.{decimalOf}
 use Rattle.text_numbers.specs.Days.{isLeap, monthLengths, monthLength, isDate, isDay}
 
 module _ (y : ℕ) where
@@ -78,7 +78,7 @@ module _ (s : List ℕ) where
     pub part-digits : (n i : ℕ) → t ≡ true → every isDigit (take n (drop i s)) ≡ true
     part-digits n i f = every-take isDigit n (drop i s) (every-drop isDigit i s (sym e ∙ f))
 
-    pub date : (y m d : ℕ) (r : Bool) → t ≡ true → y ≡ valueOf (take 4 s) → m ≡ valueOf (take 2 (drop 4 s)) → d ≡ valueOf (take 2 (drop 6 s)) → r ≡ isDate y m d → r ≡ isDay s
+    pub date : (y m d : ℕ) (r : Bool) → t ≡ true → y ≡ decimalOf (take 4 s) → m ≡ decimalOf (take 2 (drop 4 s)) → d ≡ decimalOf (take 2 (drop 6 s)) → r ≡ isDate y m d → r ≡ isDay s
     unfolding isDay
     date y m d r f a b c q = rw (h, ← e, f, ← a, ← b, ← c) q
 

@@ -17,10 +17,10 @@ use Rattle.text_scan.specs.Lists.{every}
 use Rattle.text_scan.proofs.Tests.{and-right, under, over, within}
 use Rattle.text_scan.proofs.Within.{drop-here}
 use Rattle.text_scan.proofs.Lists.{every-at}
-use Rattle.text_numbers.specs.Numbers.{valueAfter, valueOf, versionOf}
+use Rattle.text_numbers.specs.Numbers.{valueAfter, decimalOf, versionOf}
 
 abbrev pub Told : List ℕ → ℕ → ℕ → Type 0
-Told s v i = (valueOf s ≡ valueAfter v (drop i s)) × (v < 10 ^ i)
+Told s v i = (decimalOf s ≡ valueAfter v (drop i s)) × (v < 10 ^ i)
 
 small-digit : (s : List ℕ) (i : ℕ) → every isDigit s ≡ true → i < length s → getD s i 0 - 48 < 10
 small-digit s i e h =
@@ -46,7 +46,7 @@ module _ (s : List ℕ) (v i : ℕ) (w : Told s v i) (few : length s ≤ 9) (h :
           omega (arith, small-digit s i digits h, w .1),
     )
 
-pub told : (s : List ℕ) (v i : ℕ) → Told s v i → length s ≤ i → v ≡ valueOf s
+pub told : (s : List ℕ) (v i : ℕ) → Told s v i → length s ≤ i → v ≡ decimalOf s
 unfolding valueAfter
 told s v i w h = sym (w .0 ∙ rw (drop-of-length-le s h))
 
@@ -61,7 +61,7 @@ module _ (s : List ℕ) where
   version-long h = rw (over 1 9 (length s) h)
 
   module _ (h : 1 ≤ length s) (g : length s ≤ 9) (t : Bool) (e : t ≡ every isDigit s) where
-    pub version-digits : (r : ℕ) → t ≡ true → r ≡ valueOf s → r ≡ versionOf s
+    pub version-digits : (r : ℕ) → t ≡ true → r ≡ decimalOf s → r ≡ versionOf s
     unfolding versionOf
     version-digits r f q = rw (within 1 9 (length s) h g, ← e, f) q
 

@@ -8,7 +8,7 @@ use lib.ListN.{length, take, drop, getD}
 use Rattle.text_scan.specs.Choice.{pick, _or_, _and_, not, between}
 use Rattle.text_scan.specs.Bytes.{isDigit}
 use Rattle.text_scan.specs.Lists.{every}
-use Rattle.text_numbers.specs.Numbers.{valueOf}
+use Rattle.text_numbers.specs.Numbers.{decimalOf}
 
 -- every fourth year, but of the full centuries only every fourth
 unfoldable pub isLeap : ℕ → Bool
@@ -29,4 +29,4 @@ isDate year month day = leb 1 year and between 1 12 month and between 1 (monthLe
 unfoldable pub isDay : List ℕ → Bool
 isDay s =
     eqb (length s) 8 and every isDigit s
-    and isDate (valueOf (take 4 s)) (valueOf (take 2 (drop 4 s))) (valueOf (take 2 (drop 6 s)))
+    and isDate (decimalOf (take 4 s)) (decimalOf (take 2 (drop 4 s))) (decimalOf (take 2 (drop 6 s)))

@@ -14,9 +14,9 @@ valueAfter v [] = v
 valueAfter v (b ∷ bs) = valueAfter (v * 10 + (b - code "0")) bs
 
 -- the value of a string of digits
-abbrev pub valueOf : List ℕ → ℕ
-valueOf s = valueAfter 0 s
+abbrev pub decimalOf : List ℕ → ℕ
+decimalOf s = valueAfter 0 s
 
 -- a version number has 1 to 9 digits and is above 0: its value, and 0 for any other string
 unfoldable pub versionOf : List ℕ → ℕ
-versionOf s = pick (between 1 9 (length s) and every isDigit s) (valueOf s) 0
+versionOf s = pick (between 1 9 (length s) and every isDigit s) (decimalOf s) 0

@@ -5,7 +5,7 @@ ghost use Prim.Native.Nat.{_-_, _≤_};
 ghost use lib.ListN.{length};
 ghost use Rattle.text_scan.specs.Bytes.{isDigit};
 ghost use Rattle.text_scan.specs.Lists.{every};
-ghost use Rattle.text_numbers.specs.Numbers.{valueOf, versionOf};
+ghost use Rattle.text_numbers.specs.Numbers.{decimalOf, versionOf};
 ghost use Rattle.text_numbers.specs.Days.{isLeap, monthLength, isDate, isDay};
 
 const MONTH_LENGTHS: [u32; 12] = [31, 28, 31, 30, 31, 30, 31, 31, 30, 31, 30, 31];
@@ -23,7 +23,7 @@ fn digit(b: u8) -> u32
 // The value of at most nine digits.
 fn value(s: &[u8]) -> u32
     requires { ⌜ (length (now s) ≤ 9) × (every isDigit (now s) ≡ true) ⌝ }
-    ensures { λ r. ⌜ r ≡ valueOf (now (s .entry)) ⌝ }
+    ensures { λ r. ⌜ r ≡ decimalOf (now (s .entry)) ⌝ }
 {
     let mut v: u32 = 0;
     let mut i = 0;

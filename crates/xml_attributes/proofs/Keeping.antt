@@ -10,7 +10,7 @@ use lib.Seq.{set-out, sets, sets-eq, take-at, length-take-le}
 use Rattle.xml_attributes.specs.declared.TagPart.{TagPart}
 use Rattle.xml_attributes.specs.declared.TagPart.the-variants.{Read, Ended}
 use Rattle.xml_attributes.specs.declared.Tag.{Tag}
-use Rattle.xml_attributes.specs.Rows.{items}
+use Rattle.xml_attributes.specs.Chains.{items}
 use Rattle.xml_attributes.specs.Parts.{partAt, attributes}
 use Rattle.xml_attributes.proofs.Parts.{read-behind, read-named, read-valued, read-closed, attributes-go, attributes-stop, attributes-out}
 

@@ -23,10 +23,10 @@ use Rattle.xml_attributes.specs.declared.TagPart.the-variants.{Read, End
 use Rattle.xml_attributes.specs.declared.Tag.{Tag}
 use Rattle.xml_attributes.specs.declared.Tag.the-variants.{Start, Empty, Refused}
 use Rattle.xml_attributes.specs.Attributes.{attributeAt}
-use Rattle.xml_attributes.specs.Rows.{item, last}
-use Rattle.xml_attributes.specs.Parts.{readAt, partTo, partAt, inRow, pieceAt, attributes}
+use Rattle.xml_attributes.specs.Chains.{item, last}
+use Rattle.xml_attributes.specs.Parts.{readAt, partTo, partAt, inChain, tagPieceAt, attributes}
 use Rattle.xml_attributes.proofs.Attributes.{Inside, attribute-inside}
-use Rattle.xml_attributes.proofs.Rows.{row-goes, row-stops, row-out}
+use Rattle.xml_attributes.proofs.Chains.{chain-goes, chain-stops, chain-out}
 use Rattle.text_scan.specs.declared.Found.the-variants.{At, Nothing}
 use Rattle.text_scan.proofs.Within.{next-fits}
 
@@ -118,18 +118,18 @@ module _ (s : List ℕ) (i : ℕ) where
 
     -- ---- the row of attributes goes on behind it
     pub attributes-go : i < length s → attributes s i ≡ item b (attributes s (e + 1))
-    unfolding pieceAt attributes
+    unfolding tagPieceAt attributes
     attributes-go h =
         let a : i + 1 + (e - i) ≡ e + 1 = omega (arith, read-behind, read-named, read-valued, read-closed) in
-        rw a at (row-goes (pieceAt s) (Refused 7) (length s) i b (e - i) (omega (arith, read-within, read-behind, read-named, read-valued, read-closed)) (ap (inRow i) (sym ex ∙ z)))
+        rw a at (chain-goes (tagPieceAt s) (Refused 7) (length s) i b (e - i) (omega (arith, read-within, read-behind, read-named, read-valued, read-closed)) (ap (inChain i) (sym ex ∙ z)))
 
   pub attributes-stop : (x : TagPart) → x ≡ partAt s i → (t : Tag) → x ≡ Ended t → i < length s → attributes s i ≡ last t
-  unfolding pieceAt attributes
-  attributes-stop x ex t z h = row-stops (pieceAt s) (Refused 7) (length s) i t h (ap (inRow i) (sym ex ∙ z))
+  unfolding tagPieceAt attributes
+  attributes-stop x ex t z h = chain-stops (tagPieceAt s) (Refused 7) (length s) i t h (ap (inChain i) (sym ex ∙ z))
 
   pub attributes-out : length s ≤ i → attributes s i ≡ last (Refused 7)
   unfolding attributes
-  attributes-out h = row-out (pieceAt s) (Refused 7) (length s) i h
+  attributes-out h = chain-out (tagPieceAt s) (Refused 7) (length s) i h
 
 -- what stands behind '>' does not wrap
 pub close-fits : (s : List ℕ) (j b : ℕ) → b ≡ getD s j 0 → b ≡ code ">" → length s < 2 ^ 64 → Fits w64 (j + 1)

@@ -11,7 +11,7 @@ use Rattle.text_scan.proofs.Within.{inside, drop-here}
 use Rattle.xml_attributes.specs.declared.TagPart.{TagPart}
 use Rattle.xml_attributes.specs.declared.TagPart.the-variants.{Read, Ended}
 use Rattle.xml_attributes.specs.declared.Tag.{Tag}
-use Rattle.xml_attributes.specs.Rows.{item, items}
+use Rattle.xml_attributes.specs.Chains.{item, items}
 use Rattle.xml_attributes.specs.Parts.{partAt, attributes, someAttribute, someNamed, repeated}
 use Rattle.xml_names.specs.Names.{nameAt, nameEnd}
 use Rattle.xml_names.proofs.ElementNames.{name-part, name-past}
@@ -40,9 +40,9 @@ abbrev pub From : (ℕ → List ℕ → Bool) → List ℕ → ℕ → ℕ → T
 From p s at i = someAttribute p (items (attributes s at)) ≡ someAttribute p (items (attributes s i))
 
 module _ (p : ℕ → List ℕ → Bool) (s : List ℕ) (at i : ℕ) (l : From p s at i) where
-  pub row-out : length s ≤ i → false ≡ someAttribute p (items (attributes s at))
+  pub chain-out : length s ≤ i → false ≡ someAttribute p (items (attributes s at))
   unfolding someAttribute items
-  row-out h = sym (l ∙ rw (attributes-out s i h))
+  chain-out h = sym (l ∙ rw (attributes-out s i h))
 
   module _ (h : i < length s) (x : TagPart) (ex : x ≡ partAt s i) where
     pub row-ended : (t : Tag) → x ≡ Ended t → false ≡ someAttribute p (items (attributes s at))
@@ -84,7 +84,7 @@ module _ (s : List ℕ) (at i : ℕ) (l : From (namedAgain s) s at i) (h : i < l
 module _ (s : List ℕ) (at : ℕ) (x : TagPart) (ex : x ≡ partAt s at) where
   pub first-ended : (t : Tag) → x ≡ Ended t → false ≡ repeated s (items (attributes s at))
   first-ended t z =
-      inside (length s) at (λ h. row-ended (namedAgain s) s at at refl h x ex t z) (λ h. row-out (namedAgain s) s at at refl h)
+      inside (length s) at (λ h. row-ended (namedAgain s) s at at refl h x ex t z) (λ h. chain-out (namedAgain s) s at at refl h)
 
   module _ (b n v e : ℕ) (z : x ≡ Read b n v e) (r : Bool) (er : r ≡ repeated s (items (attributes s (e + 1)))) where
     first-here : attributes s at ≡ item b (attributes s (e + 1))

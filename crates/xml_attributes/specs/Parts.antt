@@ -18,7 +18,7 @@ use Rattle.xml_attributes.specs.declared.TagPart.the-variants.{Read, End
 use Rattle.xml_attributes.specs.declared.Tag.{Tag}
 use Rattle.xml_attributes.specs.declared.Tag.the-variants.{Start, Empty, Refused}
 use Rattle.xml_attributes.specs.Attributes.{attributeAt}
-use Rattle.xml_attributes.specs.Rows.{Piece, holds, ends, Row, rowFrom}
+use Rattle.xml_attributes.specs.Chains.{Piece, holds, ends, Chain, chainFrom}
 
 -- ---- the parts of a tag behind its name
 -- an attribute at position j, or malformed
@@ -37,16 +37,16 @@ abbrev pub partAt : List ℕ → ℕ → TagPart
 partAt s i = partTo s i (spaceEnd s i)
 
 -- the next part stands behind the closing quote
-abbrev pub inRow : ℕ → TagPart → Piece Tag
-inRow i (Read b n v e) = holds b (e - i)
-inRow i (Ended t) = ends t
+abbrev pub inChain : ℕ → TagPart → Piece Tag
+inChain i (Read b n v e) = holds b (e - i)
+inChain i (Ended t) = ends t
 
-unfoldable pub pieceAt : List ℕ → ℕ → Piece Tag
-pieceAt s i = inRow i (partAt s i)
+unfoldable pub tagPieceAt : List ℕ → ℕ → Piece Tag
+tagPieceAt s i = inChain i (partAt s i)
 
 -- the attributes of the tag whose element name ends at n, by their positions, and how the tag ends: an unfinished one is malformed
-unfoldable pub attributes : List ℕ → ℕ → Row Tag
-attributes s n = rowFrom (pieceAt s) (Refused 7) (length s) n
+unfoldable pub attributes : List ℕ → ℕ → Chain Tag
+attributes s n = chainFrom (tagPieceAt s) (Refused 7) (length s) n
 
 -- ---- the tests on the list
 -- one of the attributes has the property, which may ask for those behind it

@@ -25,7 +25,7 @@ use Rattle.text_chars.proofs.Chars.{char-most}
 use Rattle.text_encode.proofs.Forms.{encoded-least, encoded-most}
 use Rattle.xml_references.specs.declared.Reference.{Reference}
 use Rattle.xml_references.specs.declared.Reference.the-variants.{Char, Nothing as NoReference}
-use Rattle.xml_references.specs.References.{named, referenceOf, referenceAt}
+use Rattle.xml_references.specs.References.{entityNamed, referenceOf, referenceAt}
 use Rattle.xml_references.specs.Decoded.{replaced, part}
 use Rattle.xml_references.proofs.Widths.{reference-char}
 use Rattle.xml_references.proofs.Replaced.{byte-kept, reference-gone}
@@ -83,7 +83,7 @@ module _ (c k : ℕ) (e : k ≡ length (encoded c)) (out : List ℕ) (w : out �
 
 -- ---- only '&' begins a reference
 pub no-reference : (raw : List ℕ) (i : ℕ) → i < length raw → (getD raw i 0 ≡ code "&" → ⊥) → NoReference ≡ referenceAt raw i
-unfolding begins named referenceOf
+unfolding begins entityNamed referenceOf
 no-reference raw i h a = sym (rw (drop-here raw i h, ne-eqb (getD raw i 0) (code "&") a))
 
 -- ---- the loop: the answer for all is that for what is left of both

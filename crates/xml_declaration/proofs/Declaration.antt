@@ -25,7 +25,7 @@ use Rattle.xml_names.proofs.Values.{value-within}
 use Rattle.xml_markup.specs.AnyCase.{standsAnyCase}
 use Rattle.xml_names.specs.Names.{isSpace, spaceEnd}
 use Rattle.xml_names.specs.Values.{valueStart}
-use Rattle.xml_declaration.specs.Declaration.{isDeclaration, standsIn, valued, settingEnd, versionEnd, encodingEnd, standaloneEnd, closed, versioned, declarationEnd}
+use Rattle.xml_declaration.specs.Declaration.{isDeclaration, standsIn, valued, settingEnd, versionEnd, encodingEnd, standaloneEnd, closingEnd, versioned, declarationEnd}
 
 -- ---- a text as it is, or in any case
 module _ (t s : List ℕ) (at : ℕ) (any r : Bool) where
@@ -140,7 +140,7 @@ module _ (s : List ℕ) (o : Bool) (eo : o ≡ stands (text "<?xml") s 0) where
 
     module _ (h : 5 < v) (e : ℕ) (ee : e ≡ encodingEnd s v) (a : ℕ) (ea : a ≡ standaloneEnd s e) (q : ℕ) (eq : q ≡ spaceEnd s a) (t : Bool) (et : t ≡ stands (text "?>") s q) where
       at-close : declarationEnd s ≡ pick t (At (q + 2)) Nothing
-      unfolding versioned closed
+      unfolding versioned closingEnd
       at-close = opens ∙ rw (lt-ltb 5 v h, ← ee, ← ea, ← eq, ← et)
 
       pub no-close : t ≡ false → Nothing ≡ declarationEnd s
@@ -153,8 +153,8 @@ pub close-fits : (s : List ℕ) (q : ℕ) (t : Bool) → t ≡ stands (text "?>"
 close-fits s q t e f l = omega (arith, text-fits (text "?>") s q (omega arith) (sym e ∙ f))
 
 -- ---- bounds
-closed-within : (s : List ℕ) (q : ℕ) → Within 0 (length s) (closed s q)
-unfolding closed
+closed-within : (s : List ℕ) (q : ℕ) → Within 0 (length s) (closingEnd s q)
+unfolding closingEnd
 closed-within s q =
     pick-case (Within 0 (length s)) (stands (text "?>") s q) _ _ (λ e. omega (arith, text-fits (text "?>") s q (omega arith) e)) (λ _. tt)
 

@@ -47,12 +47,12 @@ standaloneEnd s i =
     (settingEnd false (text "standalone") (text "no") s i)
 
 -- the place after "?>" at position i
-unfoldable pub closed : List ℕ → ℕ → Found
-closed s i = pick (stands (text "?>") s i) (At (i + 2)) Nothing
+unfoldable pub closingEnd : List ℕ → ℕ → Found
+closingEnd s i = pick (stands (text "?>") s i) (At (i + 2)) Nothing
 
 -- behind the version, which ends at v: position 5 if none stands there
 unfoldable pub versioned : List ℕ → ℕ → Found
-versioned s v = pick (ltb 5 v) (closed s (spaceEnd s (standaloneEnd s (encodingEnd s v)))) Nothing
+versioned s v = pick (ltb 5 v) (closingEnd s (spaceEnd s (standaloneEnd s (encodingEnd s v)))) Nothing
 
 -- the place after the declaration
 unfoldable pub declarationEnd : List ℕ → Found

@@ -14,7 +14,7 @@ use Rattle.text_scan.specs.Lists.{some, pairs}
 use Rattle.text_scan.proofs.Tests.{never, or-true}
 use Rattle.text_facts.specs.Strings.{equal}
 use Rattle.text_facts.proofs.StringLaws.{equal-same, equal-is}
-use Rattle.sort_compare.specs.Keys.{nameOf}
+use Rattle.xml_names.specs.Names.{nameAt}
 use Rattle.sort_places.specs.Sorting.{count, Rearranged}
 use Rattle.sort_places.proofs.Counting.{count-append, some-count}
 use Rattle.xml_distinct.specs.Repeats.{isCalled, twice}
@@ -33,10 +33,10 @@ module _ (s : List ℕ) where
   twice-count : {A : Type 0} (bs : List ℕ) → twice s bs ≡ true → ((t : List ℕ) → 2 ≤ count (isCalled s t) bs → A) → A
   unfolding twice count
   twice-count [] e f = never (sym e)
-  twice-count {A} (b ∷ bs) e f = go (some (isCalled s (nameOf s b)) bs) refl e (λ h. twice-count bs h (λ t k. f t (omega arith)))
+  twice-count {A} (b ∷ bs) e f = go (some (isCalled s (nameAt s b)) bs) refl e (λ h. twice-count bs h (λ t k. f t (omega arith)))
     where
-      go : (t : Bool) → some (isCalled s (nameOf s b)) bs ≡ t → t or twice s bs ≡ true → (twice s bs ≡ true → A) → A
-      go true g h k = f (nameOf s b) (rw (same-pairs (nameOf s b)) (omega (arith, ltb-true 0 (count (isCalled s (nameOf s b)) bs) (sym (some-count (isCalled s (nameOf s b)) bs) ∙ g))))
+      go : (t : Bool) → some (isCalled s (nameAt s b)) bs ≡ t → t or twice s bs ≡ true → (twice s bs ≡ true → A) → A
+      go true g h k = f (nameAt s b) (rw (same-pairs (nameAt s b)) (omega (arith, ltb-true 0 (count (isCalled s (nameAt s b)) bs) (sym (some-count (isCalled s (nameAt s b)) bs) ∙ g))))
       go false g h k = k h
 
   count-twice : (t bs : List ℕ) → 2 ≤ count (isCalled s t) bs → twice s bs ≡ true
@@ -44,9 +44,9 @@ module _ (s : List ℕ) where
   count-twice t [] h = absurd (omega arith)
   count-twice t (b ∷ bs) h = go (isCalled s t b) refl h (count-twice t bs)
     where
-      go : (u : Bool) → isCalled s t b ≡ u → 2 ≤ pick u 1 0 + count (isCalled s t) bs → (2 ≤ count (isCalled s t) bs → twice s bs ≡ true) → some (isCalled s (nameOf s b)) bs or twice s bs ≡ true
-      go true e g k = rw (← pairs-same t (nameOf s b) e, some-count (isCalled s t) bs, lt-ltb 0 (count (isCalled s t) bs) (omega arith))
-      go false e g k = rw (k (omega arith)) (or-true (some (isCalled s (nameOf s b)) bs))
+      go : (u : Bool) → isCalled s t b ≡ u → 2 ≤ pick u 1 0 + count (isCalled s t) bs → (2 ≤ count (isCalled s t) bs → twice s bs ≡ true) → some (isCalled s (nameAt s b)) bs or twice s bs ≡ true
+      go true e g k = rw (← pairs-same t (nameAt s b) e, some-count (isCalled s t) bs, lt-ltb 0 (count (isCalled s t) bs) (omega arith))
+      go false e g k = rw (k (omega arith)) (or-true (some (isCalled s (nameAt s b)) bs))
 
   -- where each property is had by as many or more
   twice-kept : (bs cs : List ℕ) → ((p : ℕ → Bool) → count p bs ≤ count p cs) → twice s bs ≡ true → twice s cs ≡ true

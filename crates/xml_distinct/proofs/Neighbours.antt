@@ -12,7 +12,8 @@ use Rattle.sort_compare.specs.declared.By.{By}
 use Rattle.sort_compare.specs.declared.Order.{Order}
 use Rattle.sort_compare.specs.declared.Order.the-variants.{Less, Same, More}
 use Rattle.sort_compare.specs.Order.{order}
-use Rattle.sort_compare.specs.Keys.{nameOf, keyAt}
+use Rattle.xml_names.specs.Names.{nameAt}
+use Rattle.sort_compare.specs.Keys.{keyAt}
 use Rattle.sort_compare.proofs.Ordering.{same-less, more-same, order-refl, order-same}
 use Rattle.xml_distinct.specs.Repeats.{isCalled}
 use Rattle.xml_distinct.specs.Neighbours.{neighboursFrom, neighbours}
@@ -36,14 +37,14 @@ module _ (s a : List ℕ) (i : ℕ) (l : Asked s a i) where
     pub ask-same : r ≡ Same → true ≡ neighbours s a
     unfolding Asked neighboursFrom
     ask-same f =
-        let e : nameOf s (getD a (i - 1) 0) ≡ nameOf s (getD a i 0) = order-same (nameOf s (getD a (i - 1) 0)) (nameOf s (getD a i 0)) (sym er ∙ f) in
-        sym (l ∙ rw (drop-here a i h, e, same-pairs (nameOf s (getD a i 0))))
+        let e : nameAt s (getD a (i - 1) 0) ≡ nameAt s (getD a i 0) = order-same (nameAt s (getD a (i - 1) 0)) (nameAt s (getD a i 0)) (sym er ∙ f) in
+        sym (l ∙ rw (drop-here a i h, e, same-pairs (nameAt s (getD a i 0))))
 
     goes : (r ≡ Same → ⊥) → Asked s a (i + 1)
     unfolding Asked neighboursFrom
     goes f =
         let q : i + 1 - 1 ≡ i = omega arith in
-        let e : isCalled s (nameOf s (getD a (i - 1) 0)) (getD a i 0) ≡ false = not-passed (isCalled s (nameOf s (getD a (i - 1) 0)) (getD a i 0)) (λ t. f (er ∙ rw (pairs-same (nameOf s (getD a (i - 1) 0)) (nameOf s (getD a i 0)) t) (order-refl (nameOf s (getD a i 0))))) in
+        let e : isCalled s (nameAt s (getD a (i - 1) 0)) (getD a i 0) ≡ false = not-passed (isCalled s (nameAt s (getD a (i - 1) 0)) (getD a i 0)) (λ t. f (er ∙ rw (pairs-same (nameAt s (getD a (i - 1) 0)) (nameAt s (getD a i 0)) t) (order-refl (nameAt s (getD a i 0))))) in
         l ∙ rw (drop-here a i h, e, q)
 
     pub ask-less : r ≡ Less → Asked s a (i + 1)

@@ -4,13 +4,13 @@ use Prim.Native.Nat.{ℕ}
 use mathlib.Core.Bool.{Bool, false}
 use mathlib.Core.List.{List, [], _∷_}
 use Rattle.text_scan.specs.Choice.{_or_}
-use Rattle.sort_compare.specs.Keys.{nameOf}
+use Rattle.xml_names.specs.Names.{nameAt}
 use Rattle.xml_distinct.specs.Repeats.{isCalled}
 
 -- two neighbours have the same name, where b stands before the others
 unfoldable pub neighboursFrom : List ℕ → ℕ → List ℕ → Bool
 neighboursFrom s b [] = false
-neighboursFrom s b (c ∷ cs) = isCalled s (nameOf s b) c or neighboursFrom s c cs
+neighboursFrom s b (c ∷ cs) = isCalled s (nameAt s b) c or neighboursFrom s c cs
 
 unfoldable pub neighbours : List ℕ → List ℕ → Bool
 neighbours s [] = false

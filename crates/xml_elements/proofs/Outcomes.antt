@@ -11,7 +11,7 @@ use Rattle.xml_elements.specs.declared.Answer.{Answer}
 use Rattle.xml_elements.specs.declared.Answer.the-variants.{Elements, Refused}
 use Rattle.xml_steps.specs.Reading.{Read, refused, elements, fresh}
 use Rattle.xml_elements.specs.Elements.{readFrom, elementsOf, ElementsLeft}
-use Rattle.xml_elements.specs.Walked.{readOf, refusalOf, stopOf}
+use Rattle.xml_elements.specs.Walked.{readOf, pieceRefused, stopOf}
 use Rattle.xml_steps.proofs.Steps.{front-fits}
 use Rattle.xml_elements.proofs.Walks.{Rowed, reading-rowed}
 use lib.Dec.{ltb, leb}
@@ -68,10 +68,10 @@ module _ (s table : List ℕ) where
     all-chars a t g d = rw (le-ltb documentLimit (length s) h, ← e, le-ltb b (length s) g) d
 
 -- ---- refusals
-pub refused-piece : (x : Scanned) (n at : ℕ) → x ≡ Refusing n → Refused n at ≡ refusalOf x at
+pub refused-piece : (x : Scanned) (n at : ℕ) → x ≡ Refusing n → Refused n at ≡ pieceRefused x at
 refused-piece x n at e = rw e
 
-pub no-refused-piece : (x : Scanned) (k : Kind) (j at : ℕ) → x ≡ Piece k j → Refused 7 at ≡ refusalOf x at
+pub no-refused-piece : (x : Scanned) (k : Kind) (j at : ℕ) → x ≡ Piece k j → Refused 7 at ≡ pieceRefused x at
 no-refused-piece x k j at e = rw e
 
 pub stopped-step : (x : Stepped) (n at : ℕ) → x ≡ Stopped n → Refused n at ≡ stopOf x at

@@ -26,10 +26,10 @@ use Rattle.xml_elements.specs.declared.Answer.{Answer}
 use Rattle.xml_elements.specs.declared.Answer.the-variants.{Elements, Refused}
 use Rattle.xml_steps.specs.declared.Stepped.{Stepped}
 use Rattle.xml_steps.specs.declared.Stepped.the-variants.{On, Stopped}
-use Rattle.xml_steps.specs.Reading.{Reading, Read, refused, fresh, partOf, byPiece, elements}
+use Rattle.xml_steps.specs.Reading.{Reading, Read, refused, fresh, documentPart, byPiece, elements}
 use Rattle.xml_elements.specs.Elements.{atEnd, turn, left, readFrom}
 use Rattle.xml_steps.specs.Walked.{reading, turnOf, Sound, Steps}
-use Rattle.xml_elements.specs.Walked.{readOf, refusalOf, stopOf}
+use Rattle.xml_elements.specs.Walked.{readOf, pieceRefused, stopOf}
 use Rattle.xml_steps.proofs.Keeps.{never-on, gone, behind-piece, piece-sound, piece-out}
 
 -- ---- the measure falls
@@ -37,10 +37,10 @@ pub turn-falls : (s : List ℕ) (r t : Reading) → turn s r ≡ on t → left s
 unfolding turn
 turn-falls s r t e = go (ltb (r .at) (length s)) refl e
   where
-    go : (b : Bool) → ltb (r .at) (length s) ≡ b → pick b (byPiece s r (pieceAt s (r .at) (partOf (r .count) (r .depth)))) (out (atEnd s r)) ≡ on t → left s t < left s r
+    go : (b : Bool) → ltb (r .at) (length s) ≡ b → pick b (byPiece s r (pieceAt s (r .at) (documentPart (r .count) (r .depth)))) (out (atEnd s r)) ≡ on t → left s t < left s r
     go true q e =
         let h : r .at < length s = ltb-true (r .at) (length s) q in
-        let g : r .at < t .at = behind-piece s r t (pieceAt s (r .at) (partOf (r .count) (r .depth))) (piece-within s (r .at) (partOf (r .count) (r .depth)) h) e in
+        let g : r .at < t .at = behind-piece s r t (pieceAt s (r .at) (documentPart (r .count) (r .depth))) (piece-within s (r .at) (documentPart (r .count) (r .depth)) h) e in
         omega arith
     go false q e = never-on _ t e
 
@@ -70,7 +70,7 @@ pub told-start : (s : List ℕ) (d : Reader) (numbers : List ℕ) → (d .at ≡
 told-start s d numbers e =
     (ap (readFrom s) (fresh-reading d numbers e), subst (Sound (length s)) (fresh-reading d numbers e) (fresh-sound (length s)))
 
-pub part-deep : (count depth : ℕ) → partOf count depth ≡ Inside → 0 < depth
+pub part-deep : (count depth : ℕ) → documentPart count depth ≡ Inside → 0 < depth
 part-deep count (suc depth) e = omega arith
 part-deep zero zero e = absurd (let z : _≡_ {A = ℕ} 0 1 = cc in omega arith)
 part-deep (suc count) zero e = absurd (let z : _≡_ {A = ℕ} 0 1 = cc in omega arith)
@@ -94,12 +94,12 @@ module _ (s : List ℕ) (d : Reader) (numbers : List ℕ) (w : Told s d numbers)
       let q : d .depth ≡ 0 = omega arith in
       sym (told-end h ∙ rw (eq-eqb (d .depth) 0 q, lt-ltb 0 (d .count) (omega arith)))
 
-  module _ (h : d .at < length s) (p : DocumentPart) (ep : p ≡ partOf (d .count) (d .depth)) (x : Scanned) (ex : x ≡ pieceAt s (d .at) p) where
+  module _ (h : d .at < length s) (p : DocumentPart) (ep : p ≡ documentPart (d .count) (d .depth)) (x : Scanned) (ex : x ≡ pieceAt s (d .at) p) where
     this-turn : turn s (reading d numbers) ≡ byPiece s (reading d numbers) x
     unfolding turn reading
     this-turn = rw (lt-ltb _ _ h, ← ep, ← ex)
 
-    pub piece-refused : (n : ℕ) (r : Answer) → x ≡ Refusing n → r ≡ refusalOf x (d .at) → readOf r numbers ≡ readFrom s fresh
+    pub piece-refused : (n : ℕ) (r : Answer) → x ≡ Refusing n → r ≡ pieceRefused x (d .at) → readOf r numbers ≡ readFrom s fresh
     unfolding byPiece reading readOf
     piece-refused n r e f =
         rw (f, e) (sym (w .0 ∙ reads-out s (reading d numbers) (refused n (d .at)) (this-turn ∙ ap (byPiece s (reading d numbers)) e)))
@@ -150,12 +150,12 @@ refused-never s r t n e = never-on (refused n (r .at)) t e
 
 pub turn-sound : (s : List ℕ) (r t : Reading) → Sound (length s) r → turn s r ≡ on t → Sound (length s) t
 unfolding turn
-turn-sound s r t w e = go (ltb (r .at) (length s)) refl (pieceAt s (r .at) (partOf (r .count) (r .depth))) refl e
+turn-sound s r t w e = go (ltb (r .at) (length s)) refl (pieceAt s (r .at) (documentPart (r .count) (r .depth))) refl e
   where
-    go : (b : Bool) → ltb (r .at) (length s) ≡ b → (x : Scanned) → pieceAt s (r .at) (partOf (r .count) (r .depth)) ≡ x → pick b (byPiece s r x) (out (atEnd s r)) ≡ on t → Sound (length s) t
+    go : (b : Bool) → ltb (r .at) (length s) ≡ b → (x : Scanned) → pieceAt s (r .at) (documentPart (r .count) (r .depth)) ≡ x → pick b (byPiece s r x) (out (atEnd s r)) ≡ on t → Sound (length s) t
     go true q (Piece k j) ex e =
         let h : r .at < length s = ltb-true (r .at) (length s) q in
-        let n : Within (r .at) (length s) (Piece k j) = subst (Within (r .at) (length s)) ex (piece-within s (r .at) (partOf (r .count) (r .depth)) h) in
+        let n : Within (r .at) (length s) (Piece k j) = subst (Within (r .at) (length s)) ex (piece-within s (r .at) (documentPart (r .count) (r .depth)) h) in
         piece-sound s r t j w (n .0) (n .1) k (λ z. part-deep (r .count) (r .depth) (end-inside s (r .at) j _ (ex ∙ ap (λ (y : Kind). Piece y j) z) .0)) e
     go true q (Refusing n) ex e = refused-never s r t n e
     go false q x ex e = never-on (atEnd s r) t e
@@ -169,8 +169,8 @@ turn-rowed : (s : List ℕ) (r : Reading) (x : Read) → Sound (length s) r → 
 unfolding turn
 turn-rowed s r x d e = go (ltb (r .at) (length s)) e
   where
-    go : (b : Bool) → pick b (byPiece s r (pieceAt s (r .at) (partOf (r .count) (r .depth)))) (out (atEnd s r)) ≡ out x → Rowed x
-    go true e = piece-out Rowed (λ n place. tt) s r x (pieceAt s (r .at) (partOf (r .count) (r .depth))) e
+    go : (b : Bool) → pick b (byPiece s r (pieceAt s (r .at) (documentPart (r .count) (r .depth)))) (out (atEnd s r)) ≡ out x → Rowed x
+    go true e = piece-out Rowed (λ n place. tt) s r x (pieceAt s (r .at) (documentPart (r .count) (r .depth))) e
     go false e =
         subst Rowed (gone (atEnd s r) x e)
         (pick-case Rowed (eqb (r .depth) 0 and ltb 0 (r .count)) _ _ (λ _. (d .few, d .wide)) (λ _. tt))

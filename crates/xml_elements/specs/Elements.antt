@@ -14,7 +14,7 @@ use Rattle.xml_pieces.specs.declared.Scanned.the-variants.{Refused}
 use Rattle.xml_pieces.specs.Pieces.{pieceAt}
 use Rattle.xml_elements.specs.declared.Answer.{Answer}
 use Rattle.xml_elements.specs.declared.Answer.the-variants.{Elements, Refused as Refused′}
-use Rattle.xml_steps.specs.Reading.{Reading, fresh, Read, refused, elements, partOf, byPiece}
+use Rattle.xml_steps.specs.Reading.{Reading, fresh, Read, refused, elements, documentPart, byPiece}
 
 -- at the document's length: no element is open, and there is a root
 abbrev pub atEnd : List ℕ → Reading → Read
@@ -22,7 +22,7 @@ atEnd s r = pick (eqb (r .depth) 0 and ltb 0 (r .count)) (elements (r .count) (r
 
 unfoldable pub turn : List ℕ → Reading → Turn Reading Read
 turn s r =
-    pick (ltb (r .at) (length s)) (byPiece s r (pieceAt s (r .at) (partOf (r .count) (r .depth)))) (out (atEnd s r))
+    pick (ltb (r .at) (length s)) (byPiece s r (pieceAt s (r .at) (documentPart (r .count) (r .depth)))) (out (atEnd s r))
 
 -- what is left of the document, which falls with each piece
 abbrev pub left : List ℕ → Reading → ℕ

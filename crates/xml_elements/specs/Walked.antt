@@ -16,9 +16,9 @@ readOf (Elements n) numbers = elements n (take (4 * n) numbers)
 readOf (Refused n place) numbers = refused n place
 
 -- the answer of a piece or a step that was refused; no other comes there
-abbrev pub refusalOf : Scanned → ℕ → Answer
-refusalOf (Piece kind after) at = Refused 7 at
-refusalOf (Refusing n) at = Refused n at
+abbrev pub pieceRefused : Scanned → ℕ → Answer
+pieceRefused (Piece kind after) at = Refused 7 at
+pieceRefused (Refusing n) at = Refused n at
 
 abbrev pub stopOf : Stepped → ℕ → Answer
 stopOf (On d) at = Refused 7 at

@@ -6,7 +6,7 @@ ghost use lib.ListN.{length, take, drop};
 ghost use Rattle.xml_reader.specs.Limits.{documentLimit, elementsLimit};
 ghost use Rattle.xml_elements.specs.Elements.{readFrom, elementsOf, ElementsLeft};
 ghost use Rattle.xml_steps.specs.Reading.{fresh, elements as elements′};
-ghost use Rattle.xml_elements.specs.Walked.{readOf, refusalOf, stopOf};
+ghost use Rattle.xml_elements.specs.Walked.{readOf, pieceRefused, stopOf};
 ghost use Rattle.xml_steps.specs.Walked.{Roomy};
 use xml_pieces::Scanned;
 use xml_reader::Reader;
@@ -23,7 +23,7 @@ pub enum Answer {
 
 // What a refused piece answers.
 fn refusal(got: Scanned, at: usize) -> Answer
-    ensures { λ r. ⌜ r ≡ refusalOf got at ⌝ }
+    ensures { λ r. ⌜ r ≡ pieceRefused got at ⌝ }
 {
     match got {
         Scanned::Piece(_, _) => Answer::Refused(7, at),

@@ -22,7 +22,7 @@ use Rattle.xml_pieces.specs.declared.Kind.the-variants.{Text, Comment, Instruct
 use Rattle.xml_pieces.specs.declared.DocumentPart.the-variants.{After}
 use Rattle.xml_pieces.specs.declared.Scanned.{Scanned}
 use Rattle.xml_pieces.specs.declared.Scanned.the-variants.{Piece, Refused}
-use Rattle.xml_pieces.specs.Pieces.{found, onlySpace, textAt, bangAt, instructed, questionAt, endAt, startAt, markupAt, pieceAt}
+use Rattle.xml_pieces.specs.Pieces.{found, onlySpace, textPieceAt, bangAt, instructed, questionAt, endAt, startAt, markupAt, pieceAt}
 
 -- a piece of this kind adds an element
 abbrev pub Adds : Kind → Type 0
@@ -62,7 +62,7 @@ module _ (s : List ℕ) (i : ℕ) where
       pick-case NoTag (eqb i 0 and isDeclaration s) _ _ (λ _. found-none Declaration (λ a. a) (declarationEnd s)) (λ _. instructed-none (instructionEnd s i))
 
   none-after : NoTag (pieceAt s i After)
-  unfolding pieceAt markupAt textAt endAt startAt
+  unfolding pieceAt markupAt textPieceAt endAt startAt
   none-after =
       pick-case NoTag (eqb (getD s i 0) 60) _ _
       (λ _. pick-case NoTag (stands (text "<!") s i) _ _ (λ _. bang-none)

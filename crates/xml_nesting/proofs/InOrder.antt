@@ -12,7 +12,7 @@ use lib.ListN.{set}
 use Rattle.text_scan.specs.Choice.{not}
 use Rattle.text_scan.proofs.Tests.{never, and-right, or-left, or-right}
 use Rattle.text_scan.proofs.Within.{inside}
-use Rattle.xml_steps.specs.Reading.{Reading, fresh, row, parentOf, firstOf, afterOf, passed, added, closed}
+use Rattle.xml_steps.specs.Reading.{Reading, fresh, elementRow, parentOf, firstOf, afterOf, passed, added, closed}
 use Rattle.xml_steps.specs.Walked.{Sound}
 use Rattle.xml_nesting.proofs.Open.{isOpen, atLevel, open-same, level-same, old-parent, old-first, old-after, new-parent, new-first, new-after, set-parent, set-first, set-after, set-its-after}
 
@@ -57,9 +57,9 @@ module _ (n : ℕ) (r : Reading) (j : ℕ) (d : Sound n r) (w : InOrder r) (ahea
 
   -- after which so many are open, the innermost of number `top`
   module _ (depth top : ℕ)
-      (less : (p : ℕ) → p < r .count → isOpen (r .rows ++ row (r .count) (r .top) (r .at) j) depth top p ≡ false → isOpen (r .rows) (r .depth) (r .top) p ≡ false)
-      (covers : 0 < r .count → isOpen (r .rows ++ row (r .count) (r .top) (r .at) j) depth top (r .top) ≡ false → ⊥)
-      (levels : (e : ℕ) → depth ≡ suc e → atLevel (r .rows ++ row (r .count) (r .top) (r .at) j) e top ≡ true) where
+      (less : (p : ℕ) → p < r .count → isOpen (r .rows ++ elementRow (r .count) (r .top) (r .at) j) depth top p ≡ false → isOpen (r .rows) (r .depth) (r .top) p ≡ false)
+      (covers : 0 < r .count → isOpen (r .rows ++ elementRow (r .count) (r .top) (r .at) j) depth top (r .top) ≡ false → ⊥)
+      (levels : (e : ℕ) → depth ≡ suc e → atLevel (r .rows ++ elementRow (r .count) (r .top) (r .at) j) e top ≡ true) where
     added-order : InOrder (added r j depth top)
     added-order =
         record {
@@ -94,13 +94,13 @@ module _ (n : ℕ) (r : Reading) (j : ℕ) (d : Sound n r) (w : InOrder r) (ahea
         }
 
   module _ (deep : 0 < r .count → 0 < r .depth) where
-    parents : (k : ℕ) → k < r .count → parentOf (r .rows ++ row (r .count) (r .top) (r .at) j) k ≡ parentOf (r .rows) k
+    parents : (k : ℕ) → k < r .count → parentOf (r .rows ++ elementRow (r .count) (r .top) (r .at) j) k ≡ parentOf (r .rows) k
     parents = old-parent (r .rows) (r .count) (r .top) (r .at) j (d .wide)
 
-    opens : (depth k : ℕ) → 0 < r .count → isOpen (r .rows ++ row (r .count) (r .top) (r .at) j) depth (r .top) k ≡ isOpen (r .rows) depth (r .top) k
+    opens : (depth k : ℕ) → 0 < r .count → isOpen (r .rows ++ elementRow (r .count) (r .top) (r .at) j) depth (r .top) k ≡ isOpen (r .rows) depth (r .top) k
     opens depth k h = open-same (r .rows) _ (r .count) parents (d .above) depth (r .top) k (omega (arith, d .inner))
 
-    levels : (e : ℕ) → r .depth ≡ suc e → atLevel (r .rows ++ row (r .count) (r .top) (r .at) j) e (r .top) ≡ true
+    levels : (e : ℕ) → r .depth ≡ suc e → atLevel (r .rows ++ elementRow (r .count) (r .top) (r .at) j) e (r .top) ≡ true
     levels e q = level-same (r .rows) _ (r .count) parents (d .above) e (r .top) (omega (arith, d .inner, d .shallow)) ∙ w .level e q
 
     pub empty-order : InOrder (added r j (r .depth) (r .top))
@@ -111,13 +111,13 @@ module _ (n : ℕ) (r : Reading) (j : ℕ) (d : Sound n r) (w : InOrder r) (ahea
         levels
 
     -- where the new element is the innermost, the others are open as before
-    below-new : (p : ℕ) → isOpen (r .rows ++ row (r .count) (r .top) (r .at) j) (r .depth + 1) (r .count) p ≡ false → isOpen (r .rows ++ row (r .count) (r .top) (r .at) j) (r .depth) (r .top) p ≡ false
+    below-new : (p : ℕ) → isOpen (r .rows ++ elementRow (r .count) (r .top) (r .at) j) (r .depth + 1) (r .count) p ≡ false → isOpen (r .rows ++ elementRow (r .count) (r .top) (r .at) j) (r .depth) (r .top) p ≡ false
     below-new p e =
         let q : r .depth + 1 ≡ suc (r .depth) = omega arith in
         let f = or-right (eqb p (r .count)) _ (rw q at e) in
         rw (new-parent (r .rows) (r .count) (r .top) (r .at) j (d .wide)) at f
 
-    new-level : (c e : ℕ) → r .depth ≡ e → c ≡ r .count → atLevel (r .rows ++ row (r .count) (r .top) (r .at) j) e c ≡ true
+    new-level : (c e : ℕ) → r .depth ≡ e → c ≡ r .count → atLevel (r .rows ++ elementRow (r .count) (r .top) (r .at) j) e c ≡ true
     new-level c zero q f = eq-eqb c 0 (split c 0 (λ z. z) (λ z. absurd (omega (arith, deep (omega arith)))))
     new-level c (suc e) q f =
         let z : c ≡ 0 → ⊥ = λ y. omega (arith, d .shallow) in

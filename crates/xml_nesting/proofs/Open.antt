@@ -9,7 +9,7 @@ use lib.Dec.{eqb}
 use lib.ListN.{length, getD, set, List·getD-append}
 use lib.Seq.{getD-append-add, getD-set-same, getD-set-other}
 use Rattle.text_scan.specs.Choice.{_or_, _and_, not}
-use Rattle.xml_steps.specs.Reading.{row, parentOf, firstOf, afterOf}
+use Rattle.xml_steps.specs.Reading.{elementRow, parentOf, firstOf, afterOf}
 
 -- the open elements are the innermost one, its parent, and so on
 abbrev pub isOpen : List ℕ → ℕ → ℕ → ℕ → Bool
@@ -35,28 +35,28 @@ module _ (rows rows′ : List ℕ) (count : ℕ) (same : (k : ℕ) → k < count
 
 -- ---- one row more
 module _ (rows : List ℕ) (count p f a : ℕ) (wide : length rows ≡ 4 * count) where
-  old : (k i : ℕ) → 4 * k + i < 4 * count → getD (rows ++ row count p f a) (4 * k + i) 0 ≡ getD rows (4 * k + i) 0
-  old k i h = List·getD-append rows (row count p f a) 0 (4 * k + i) (omega arith)
+  old : (k i : ℕ) → 4 * k + i < 4 * count → getD (rows ++ elementRow count p f a) (4 * k + i) 0 ≡ getD rows (4 * k + i) 0
+  old k i h = List·getD-append rows (elementRow count p f a) 0 (4 * k + i) (omega arith)
 
-  new : (i : ℕ) → getD (rows ++ row count p f a) (4 * count + i) 0 ≡ getD (row count p f a) i 0
-  new i = rw wide at (getD-append-add rows (row count p f a) i 0)
+  new : (i : ℕ) → getD (rows ++ elementRow count p f a) (4 * count + i) 0 ≡ getD (elementRow count p f a) i 0
+  new i = rw wide at (getD-append-add rows (elementRow count p f a) i 0)
 
-  pub old-parent : (k : ℕ) → k < count → parentOf (rows ++ row count p f a) k ≡ parentOf rows k
+  pub old-parent : (k : ℕ) → k < count → parentOf (rows ++ elementRow count p f a) k ≡ parentOf rows k
   old-parent k h = old k 1 (omega arith)
 
-  pub old-first : (k : ℕ) → k < count → firstOf (rows ++ row count p f a) k ≡ firstOf rows k
+  pub old-first : (k : ℕ) → k < count → firstOf (rows ++ elementRow count p f a) k ≡ firstOf rows k
   old-first k h = old k 2 (omega arith)
 
-  pub old-after : (k : ℕ) → k < count → afterOf (rows ++ row count p f a) k ≡ afterOf rows k
+  pub old-after : (k : ℕ) → k < count → afterOf (rows ++ elementRow count p f a) k ≡ afterOf rows k
   old-after k h = old k 3 (omega arith)
 
-  pub new-parent : parentOf (rows ++ row count p f a) count ≡ p
+  pub new-parent : parentOf (rows ++ elementRow count p f a) count ≡ p
   new-parent = new 1
 
-  pub new-first : firstOf (rows ++ row count p f a) count ≡ f
+  pub new-first : firstOf (rows ++ elementRow count p f a) count ≡ f
   new-first = new 2
 
-  pub new-after : afterOf (rows ++ row count p f a) count ≡ a
+  pub new-after : afterOf (rows ++ elementRow count p f a) count ≡ a
   new-after = new 3
 
 -- ---- one element closed

@@ -20,12 +20,12 @@ use Rattle.xml_pieces.specs.declared.Scanned.{Scanned}
 use Rattle.xml_pieces.specs.declared.Scanned.the-variants.{Piece, Refused as Refusing}
 use Rattle.xml_pieces.specs.Pieces.{pieceAt}
 use Rattle.xml_pieces.proofs.Within.{Within, piece-within, end-inside}
-use Rattle.xml_steps.specs.Reading.{Reading, Read, refused, elements, fresh, passed, added, closed, hasRoom, adding, closing, partOf, byPiece}
+use Rattle.xml_steps.specs.Reading.{Reading, Read, refused, elements, fresh, passed, added, closed, hasElementRoom, adding, closing, documentPart, byPiece}
 use Rattle.xml_elements.specs.Elements.{atEnd, turn, left, readFrom, elementsOf}
 use Rattle.xml_steps.specs.Walked.{Sound}
 use Rattle.xml_steps.proofs.Keeps.{chosen, went, never-on, gone, closing-on, piece-out}
 use Rattle.xml_elements.proofs.Walks.{turn-falls, fresh-sound, part-deep, refused-never, turn-sound}
-use Rattle.xml_nesting.specs.Ordered.{Ordered}
+use Rattle.xml_nesting.specs.Nested.{Nested}
 use Rattle.xml_nesting.proofs.After.{Adds, no-tag-after}
 use Rattle.xml_nesting.proofs.InOrder.{InOrder, fresh-order, passed-order, empty-order, start-order, closed-order}
 
@@ -44,30 +44,30 @@ module _ (t : Reading) where
   piece-order s r j w h Instruction f g e = subst InOrder (went (passed r j) t e) (passed-order r j (w .1))
   piece-order s r j w h Declaration f g e = subst InOrder (went (passed r j) t e) (passed-order r j (w .1))
   piece-order s r j w h Start f g e =
-      subst InOrder (chosen (hasRoom r) (added r j (r .depth + 1) (r .count)) t (refused 8 (r .at)) e .1) (start-order (length s) r j (w .0) (w .1) h (f tt))
+      subst InOrder (chosen (hasElementRoom r) (added r j (r .depth + 1) (r .count)) t (refused 8 (r .at)) e .1) (start-order (length s) r j (w .0) (w .1) h (f tt))
   piece-order s r j w h Empty f g e =
-      subst InOrder (chosen (hasRoom r) (added r j (r .depth) (r .top)) t (refused 8 (r .at)) e .1) (empty-order (length s) r j (w .0) (w .1) h (f tt))
+      subst InOrder (chosen (hasElementRoom r) (added r j (r .depth) (r .top)) t (refused 8 (r .at)) e .1) (empty-order (length s) r j (w .0) (w .1) h (f tt))
   piece-order s r j w h End f g e =
       subst InOrder (closing-on s r t j e) (closed-order (length s) r j (w .0) (w .1) h (g refl))
 
 -- ---- one turn
 -- a tag adds an element inside the root, or the root
-tag-deep : (s : List ℕ) (i j count depth : ℕ) (k : Kind) → pieceAt s i (partOf count depth) ≡ Piece k j → Adds k → 0 < count → 0 < depth
+tag-deep : (s : List ℕ) (i j count depth : ℕ) (k : Kind) → pieceAt s i (documentPart count depth) ≡ Piece k j → Adds k → 0 < count → 0 < depth
 tag-deep s i j count (suc depth) k e a h = omega arith
 tag-deep s i j zero zero k e a h = absurd (omega arith)
 tag-deep s i j (suc count) zero k e a h = absurd (no-tag-after s i k j e a)
 
-end-deep : (s : List ℕ) (i j count depth : ℕ) (k : Kind) → pieceAt s i (partOf count depth) ≡ Piece k j → k ≡ End → 0 < depth
+end-deep : (s : List ℕ) (i j count depth : ℕ) (k : Kind) → pieceAt s i (documentPart count depth) ≡ Piece k j → k ≡ End → 0 < depth
 end-deep s i j count depth k e q =
-    part-deep count depth (end-inside s i j (partOf count depth) (e ∙ ap (λ (y : Kind). Piece y j) q) .0)
+    part-deep count depth (end-inside s i j (documentPart count depth) (e ∙ ap (λ (y : Kind). Piece y j) q) .0)
 
 turn-order : (s : List ℕ) (r t : Reading) → Kept (length s) r → turn s r ≡ on t → InOrder t
 unfolding turn
-turn-order s r t w e = go (ltb (r .at) (length s)) refl (pieceAt s (r .at) (partOf (r .count) (r .depth))) refl e
+turn-order s r t w e = go (ltb (r .at) (length s)) refl (pieceAt s (r .at) (documentPart (r .count) (r .depth))) refl e
   where
-    go : (b : Bool) → ltb (r .at) (length s) ≡ b → (x : Scanned) → pieceAt s (r .at) (partOf (r .count) (r .depth)) ≡ x → pick b (byPiece s r x) (out (atEnd s r)) ≡ on t → InOrder t
+    go : (b : Bool) → ltb (r .at) (length s) ≡ b → (x : Scanned) → pieceAt s (r .at) (documentPart (r .count) (r .depth)) ≡ x → pick b (byPiece s r x) (out (atEnd s r)) ≡ on t → InOrder t
     go true q (Piece k j) ex e =
-        let n : Within (r .at) (length s) (Piece k j) = subst (Within (r .at) (length s)) ex (piece-within s (r .at) (partOf (r .count) (r .depth)) (ltb-true (r .at) (length s) q)) in
+        let n : Within (r .at) (length s) (Piece k j) = subst (Within (r .at) (length s)) ex (piece-within s (r .at) (documentPart (r .count) (r .depth)) (ltb-true (r .at) (length s) q)) in
         piece-order t s r j w (n .0) k (tag-deep s (r .at) j (r .count) (r .depth) k ex) (end-deep s (r .at) j (r .count) (r .depth) k ex) e
     go true q (Refusing n) ex e = refused-never s r t n e
     go false q x ex e = never-on (atEnd s r) t e
@@ -79,7 +79,7 @@ pub record Rows (s : List ℕ) (n : ℕ) (rows : List ℕ) : Type 0 where
   pub few : n ≤ elementsLimit
   pub wide : length rows ≡ 4 * n
   pub low : (k : ℕ) → getD rows k 0 ≤ length s
-  pub ordered : Ordered rows n
+  pub ordered : Nested rows n
 
 abbrev ReadRows : List ℕ → Read → Type 0
 ReadRows s (refused n place) = Unit {0}
@@ -111,8 +111,8 @@ turn-rows : (s : List ℕ) (r : Reading) (x : Read) → Kept (length s) r → tu
 unfolding turn
 turn-rows s r x w e = go (ltb (r .at) (length s)) e
   where
-    go : (b : Bool) → pick b (byPiece s r (pieceAt s (r .at) (partOf (r .count) (r .depth)))) (out (atEnd s r)) ≡ out x → ReadRows s x
-    go true e = piece-out (ReadRows s) (λ n place. tt) s r x (pieceAt s (r .at) (partOf (r .count) (r .depth))) e
+    go : (b : Bool) → pick b (byPiece s r (pieceAt s (r .at) (documentPart (r .count) (r .depth)))) (out (atEnd s r)) ≡ out x → ReadRows s x
+    go true e = piece-out (ReadRows s) (λ n place. tt) s r x (pieceAt s (r .at) (documentPart (r .count) (r .depth))) e
     go false e = subst (ReadRows s) (gone (atEnd s r) x e) (end-rows s r w)
 
 read-rows : (s : List ℕ) → ReadRows s (elementsOf s)

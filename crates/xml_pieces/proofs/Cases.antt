@@ -28,7 +28,7 @@ use Rattle.xml_pieces.specs.declared.DocumentPart.{DocumentPart}
 use Rattle.xml_pieces.specs.declared.DocumentPart.the-variants.{Before, Inside, After}
 use Rattle.xml_pieces.specs.declared.Scanned.{Scanned}
 use Rattle.xml_pieces.specs.declared.Scanned.the-variants.{Piece, Refused}
-use Rattle.xml_pieces.specs.Pieces.{found, onlySpace, textAt, bangAt, instructed, questionAt, endAt, tagged, startAt, markupAt, pieceAt}
+use Rattle.xml_pieces.specs.Pieces.{found, onlySpace, textPieceAt, bangAt, instructed, questionAt, endAt, tagged, startAt, markupAt, pieceAt}
 
 -- ---- answers taken over
 module _ (kind : Kind) (x : Found) where
@@ -68,16 +68,16 @@ module _ (s : List ℕ) (j : ℕ) where
     space-to-text n f = rw (ne-eqb j (length s) n, ← e, ne-eqb b 60 f)
 
 module _ (s : List ℕ) (i : ℕ) (part : DocumentPart) (r : Scanned) where
-  pub text-before : (j : ℕ) → part ≡ Before → j ≡ spaceEnd s i → r ≡ onlySpace s j → r ≡ textAt s i part
-  unfolding textAt
+  pub text-before : (j : ℕ) → part ≡ Before → j ≡ spaceEnd s i → r ≡ onlySpace s j → r ≡ textPieceAt s i part
+  unfolding textPieceAt
   text-before j p e f = rw (p, ← e) f
 
-  pub text-inside : (x : Found) → part ≡ Inside → x ≡ textEnd s i → r ≡ found Text x → r ≡ textAt s i part
-  unfolding textAt
+  pub text-inside : (x : Found) → part ≡ Inside → x ≡ textEnd s i → r ≡ found Text x → r ≡ textPieceAt s i part
+  unfolding textPieceAt
   text-inside x p e f = rw (p, ← e) f
 
-  pub text-after : (j : ℕ) → part ≡ After → j ≡ spaceEnd s i → r ≡ onlySpace s j → r ≡ textAt s i part
-  unfolding textAt
+  pub text-after : (j : ℕ) → part ≡ After → j ≡ spaceEnd s i → r ≡ onlySpace s j → r ≡ textPieceAt s i part
+  unfolding textPieceAt
   text-after j p e f = rw (p, ← e) f
 
   -- ---- tags
@@ -165,6 +165,6 @@ module _ (s : List ℕ) (i : ℕ) (part : DocumentPart) (r : Scanned) (b : ℕ) 
   unfolding pieceAt
   by-markup f g = rw (← e, eq-eqb b 60 f) g
 
-  pub by-text : (b ≡ 60 → ⊥) → r ≡ textAt s i part → r ≡ pieceAt s i part
+  pub by-text : (b ≡ 60 → ⊥) → r ≡ textPieceAt s i part → r ≡ pieceAt s i part
   unfolding pieceAt
   by-text f g = rw (← e, ne-eqb b 60 f) g

@@ -40,7 +40,7 @@ use Rattle.xml_pieces.specs.declared.DocumentPart.{DocumentPart}
 use Rattle.xml_pieces.specs.declared.DocumentPart.the-variants.{Before, Inside, After}
 use Rattle.xml_pieces.specs.declared.Scanned.{Scanned}
 use Rattle.xml_pieces.specs.declared.Scanned.the-variants.{Piece, Refused}
-use Rattle.xml_pieces.specs.Pieces.{found, onlySpace, textAt, bangAt, instructed, questionAt, endAt, tagged, startAt, markupAt, pieceAt}
+use Rattle.xml_pieces.specs.Pieces.{found, onlySpace, textPieceAt, bangAt, instructed, questionAt, endAt, tagged, startAt, markupAt, pieceAt}
 
 abbrev pub Within : ℕ → ℕ → Scanned → Type 0
 Within at n (Piece k j) = (at < j) × (j ≤ n)
@@ -89,8 +89,8 @@ module _ (s : List ℕ) (i : ℕ) (h : i < length s) (b : getD s i 0 ≡ 60 → 
       (behind-start j (text-ahead s i (omega arith) j e) (text-ended s i (omega arith) j e), text-inside s i (omega arith) j e)
   run-within Nothing e = tt
 
-  text-within : (p : DocumentPart) → Within i (length s) (textAt s i p)
-  unfolding textAt
+  text-within : (p : DocumentPart) → Within i (length s) (textPieceAt s i p)
+  unfolding textPieceAt
   text-within Before = space-within
   text-within Inside = run-within (textEnd s i) refl
   text-within After = space-within
@@ -212,8 +212,8 @@ start-ends s i Before = tag-ends Before s i (tagAt s i)
 start-ends s i Inside = tag-ends Inside s i (tagAt s i)
 start-ends s i After = tt
 
-text-at-ends : (s : List ℕ) (i : ℕ) (p : DocumentPart) → Ends p i (textAt s i p)
-unfolding textAt
+text-at-ends : (s : List ℕ) (i : ℕ) (p : DocumentPart) → Ends p i (textPieceAt s i p)
+unfolding textPieceAt
 text-at-ends s i Before = space-ends Before s i (spaceEnd s i)
 text-at-ends s i Inside = text-ends Inside s i (textEnd s i)
 text-at-ends s i After = space-ends After s i (spaceEnd s i)

@@ -1,11 +1,11 @@
 -- One piece of a document (document 01, "Reading the document"): a run without '<', or one piece of markup that starts at '<'. The answer is its
 -- kind with the place after it, or the number of a refusal: 6 is a document type declaration or CDATA, 7 malformed, 8 past a limit.
 -- Assumes nothing.
-use Prim.Native.Nat.{ℕ, _-_}
+use Prim.Native.Nat.{ℕ}
 use Prim.Native.Char.{code}
 use mathlib.Core.List.{List}
 use lib.Dec.{eqb}
-use lib.ListN.{length, take, drop, getD}
+use lib.ListN.{length, getD}
 use Rattle.text_scan.specs.Choice.{pick, _or_, _and_}
 use Rattle.text_scan.specs.Bytes.{text}
 use Rattle.text_scan.specs.Lists.{stands}
@@ -14,7 +14,7 @@ use Rattle.text_scan.specs.declared.Found.the-variants.{At, Nothing}
 use Rattle.xml_references.specs.Runs.{textEnd}
 use Rattle.xml_markup.specs.declared.Scanned.{Scanned as Instructed}
 use Rattle.xml_markup.specs.declared.Scanned.the-variants.{End as Over, Refused as Refusing}
-use Rattle.xml_names.specs.Names.{spaceEnd, nameEnd}
+use Rattle.xml_names.specs.Names.{spaceEnd}
 use Rattle.xml_markup.specs.Comments.{commentEnd}
 use Rattle.xml_markup.specs.Instructions.{instructionEnd}
 use Rattle.xml_declaration.specs.Declaration.{isDeclaration, declarationEnd}
@@ -29,10 +29,6 @@ use Rattle.xml_pieces.specs.declared.DocumentPart.the-variants.{Before, 
 use Rattle.xml_pieces.specs.declared.Scanned.{Scanned}
 use Rattle.xml_pieces.specs.declared.Scanned.the-variants.{Piece, Refused}
 
--- the name at position i
-abbrev pub nameAt : List ℕ → ℕ → List ℕ
-nameAt s i = take (nameEnd s i - i) (drop i s)
-
 -- what is found is a piece of this kind; what is not, malformed
 abbrev pub found : Kind → Found → Scanned
 found kind (At after) = Piece kind after
@@ -42,10 +38,10 @@ found kind Nothing = Refused 7
 abbrev pub onlySpace : List ℕ → ℕ → Scanned
 onlySpace s j = pick (eqb j (length s) or eqb (getD s j 0) (code "<")) (Piece Text j) (Refused 7)
 
-unfoldable pub textAt : List ℕ → ℕ → DocumentPart → Scanned
-textAt s i Before = onlySpace s (spaceEnd s i)
-textAt s i Inside = found Text (textEnd s i)
-textAt s i After = onlySpace s (spaceEnd s i)
+unfoldable pub textPieceAt : List ℕ → ℕ → DocumentPart → Scanned
+textPieceAt s i Before = onlySpace s (spaceEnd s i)
+textPieceAt s i Inside = found Text (textEnd s i)
+textPieceAt s i After = onlySpace s (spaceEnd s i)
 
 -- "<!"
 unfoldable pub bangAt : List ℕ → ℕ → Scanned
@@ -87,4 +83,4 @@ markupAt s i part =
 
 -- the piece that starts at i, in a part of the document
 unfoldable pub pieceAt : List ℕ → ℕ → DocumentPart → Scanned
-pieceAt s i part = pick (eqb (getD s i 0) (code "<")) (markupAt s i part) (textAt s i part)
+pieceAt s i part = pick (eqb (getD s i 0) (code "<")) (markupAt s i part) (textPieceAt s i part)

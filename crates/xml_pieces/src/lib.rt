@@ -1,6 +1,6 @@
 // One piece of a document: its kind with the place after it, or the number of a refusal.
 ghost use mathlib.Core.Path.{_≡_};
-ghost use Rattle.xml_pieces.specs.Pieces.{found, onlySpace, textAt, bangAt, instructed, questionAt, endAt, tagged, startAt, markupAt, pieceAt};
+ghost use Rattle.xml_pieces.specs.Pieces.{found, onlySpace, textPieceAt, bangAt, instructed, questionAt, endAt, tagged, startAt, markupAt, pieceAt};
 use text_scan::Found;
 
 pub enum Kind {
@@ -50,7 +50,7 @@ fn only_space(s: &[u8], j: usize) -> Scanned
 
 // A run without `<`.
 fn text(s: &[u8], at: usize, part: DocumentPart) -> Scanned
-    ensures { λ r. ⌜ r ≡ textAt (now (s .entry)) at part ⌝ }
+    ensures { λ r. ⌜ r ≡ textPieceAt (now (s .entry)) at part ⌝ }
 {
     match part {
         DocumentPart::Before => only_space(s, xml_names::space_end(s, at)),

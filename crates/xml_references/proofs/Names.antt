@@ -13,35 +13,35 @@ use Rattle.text_scan.specs.Lists.{stands}
 use Rattle.text_scan.proofs.Lists.{text-fits}
 use Rattle.xml_references.specs.declared.Reference.{Reference}
 use Rattle.xml_references.specs.declared.Reference.the-variants.{Char, Nothing}
-use Rattle.xml_references.specs.References.{number, names, named, referenceOf, referenceAt}
+use Rattle.xml_references.specs.References.{number, names, entityNamed, referenceOf, referenceAt}
 
 module _ (s : List ℕ) (i : ℕ) where
-  pub lt : stands (text "&lt;") s i ≡ true → Char 4 (code "<") ≡ named names (drop i s)
-  unfolding named
+  pub lt : stands (text "&lt;") s i ≡ true → Char 4 (code "<") ≡ entityNamed names (drop i s)
+  unfolding entityNamed
   lt a = rw a
 
   module _ (n1 : stands (text "&lt;") s i ≡ false) where
-    pub gt : stands (text "&gt;") s i ≡ true → Char 4 (code ">") ≡ named names (drop i s)
-    unfolding named
+    pub gt : stands (text "&gt;") s i ≡ true → Char 4 (code ">") ≡ entityNamed names (drop i s)
+    unfolding entityNamed
     gt a = rw (n1, a)
 
     module _ (n2 : stands (text "&gt;") s i ≡ false) where
-      pub amp : stands (text "&amp;") s i ≡ true → Char 5 (code "&") ≡ named names (drop i s)
-      unfolding named
+      pub amp : stands (text "&amp;") s i ≡ true → Char 5 (code "&") ≡ entityNamed names (drop i s)
+      unfolding entityNamed
       amp a = rw (n1, n2, a)
 
       module _ (n3 : stands (text "&amp;") s i ≡ false) where
-        pub apos : stands (text "&apos;") s i ≡ true → Char 6 (code "'") ≡ named names (drop i s)
-        unfolding named
+        pub apos : stands (text "&apos;") s i ≡ true → Char 6 (code "'") ≡ entityNamed names (drop i s)
+        unfolding entityNamed
         apos a = rw (n1, n2, n3, a)
 
         module _ (n4 : stands (text "&apos;") s i ≡ false) where
-          pub quot : stands (text "&quot;") s i ≡ true → Char 6 (code "\"") ≡ named names (drop i s)
-          unfolding named
+          pub quot : stands (text "&quot;") s i ≡ true → Char 6 (code "\"") ≡ entityNamed names (drop i s)
+          unfolding entityNamed
           quot a = rw (n1, n2, n3, n4, a)
 
-          pub no-name : stands (text "&quot;") s i ≡ false → Nothing ≡ named names (drop i s)
-          unfolding named
+          pub no-name : stands (text "&quot;") s i ≡ false → Nothing ≡ entityNamed names (drop i s)
+          unfolding entityNamed
           no-name a = rw (n1, n2, n3, n4, a)
 
   -- ---- a number, or a name
@@ -60,6 +60,6 @@ module _ (s : List ℕ) (i : ℕ) where
     unfolding referenceOf
     dec r a e = rw (n1, a, drop-drop 2 i s) e
 
-    pub name : (r : Reference) → stands (text "&#") s i ≡ false → r ≡ named names (drop i s) → r ≡ referenceAt s i
+    pub name : (r : Reference) → stands (text "&#") s i ≡ false → r ≡ entityNamed names (drop i s) → r ≡ referenceAt s i
     unfolding referenceOf
     name r a e = rw (n1, a) e

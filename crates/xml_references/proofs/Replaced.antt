@@ -16,13 +16,13 @@ use Rattle.text_scan.proofs.Within.{drop-here}
 use Rattle.text_encode.specs.Encode.{encoded}
 use Rattle.xml_references.specs.declared.Reference.{Reference}
 use Rattle.xml_references.specs.declared.Reference.the-variants.{Char, Nothing}
-use Rattle.xml_references.specs.References.{named, referenceOf, referenceAt}
+use Rattle.xml_references.specs.References.{entityNamed, referenceOf, referenceAt}
 use Rattle.xml_references.specs.Decoded.{replaced, isPlain, part, decoded}
 use Rattle.xml_references.proofs.Widths.{reference-least, reference-fits, reference-room}
 
 -- only '&' begins a reference
 plain : (x : ℕ) (xs : List ℕ) → (x ≡ code "&" → ⊥) → referenceOf (x ∷ xs) ≡ Nothing
-unfolding begins named referenceOf
+unfolding begins entityNamed referenceOf
 plain x xs h = rw (ne-eqb x (code "&") h)
 
 -- to pass over k bytes is to be k further

@@ -19,7 +19,7 @@ use Rattle.text_encode.specs.Encode.{encoded}
 use Rattle.text_encode.proofs.Forms.{encoded-most}
 use Rattle.xml_references.specs.declared.Reference.{Reference}
 use Rattle.xml_references.specs.declared.Reference.the-variants.{Char, Nothing}
-use Rattle.xml_references.specs.References.{digitValue, number, Named, names, named, referenceOf, referenceAt}
+use Rattle.xml_references.specs.References.{digitValue, number, Named, names, entityNamed, referenceOf, referenceAt}
 
 -- a width from lo to hi, and a Char
 abbrev Good : ℕ → ℕ → Reference → Type 0
@@ -52,11 +52,11 @@ fine : List Named → Bool
 fine [] = true
 fine (n ∷ ns) = (leb 4 (length (n .0)) and isXmlChar (n .1)) and fine ns
 
-named-good : (ns : List Named) (xs : List ℕ) → fine ns ≡ true → Good 4 (length xs) (named ns xs)
-unfolding fine named
+named-good : (ns : List Named) (xs : List ℕ) → fine ns ≡ true → Good 4 (length xs) (entityNamed ns xs)
+unfolding fine entityNamed
 named-good [] xs e = tt
 named-good (n ∷ ns) xs e =
-    pick-case (Good 4 (length xs)) (begins (n .0) xs) (Char (length (n .0)) (n .1)) (named ns xs)
+    pick-case (Good 4 (length xs)) (begins (n .0) xs) (Char (length (n .0)) (n .1)) (entityNamed ns xs)
     (λ b. (long, omega (arith, text-fits (n .0) xs 0 (omega (arith, long)) b), and-right (leb 4 (length (n .0))) (isXmlChar (n .1)) here))
     (λ _. named-good ns xs (and-right (leb 4 (length (n .0)) and isXmlChar (n .1)) (fine ns) e))
   where
@@ -75,9 +75,9 @@ reference-good : (xs : List ℕ) → Good 4 (length xs) (referenceOf xs)
 unfolding referenceOf
 reference-good xs =
     pick-case (Good 4 (length xs)) (begins (text "&#x") xs) (number 16 0 3 (drop 3 xs))
-    (pick (begins (text "&#") xs) (number 10 0 2 (drop 2 xs)) (named names xs))
+    (pick (begins (text "&#") xs) (number 10 0 2 (drop 2 xs)) (entityNamed names xs))
     (λ b. some-digit 4 (length xs) 16 3 (drop 3 xs) (omega arith) (omega (arith, length-drop 3 xs, text-fits (text "&#x") xs 0 (omega arith) b)))
-    (λ _. pick-case (Good 4 (length xs)) (begins (text "&#") xs) (number 10 0 2 (drop 2 xs)) (named names xs)
+    (λ _. pick-case (Good 4 (length xs)) (begins (text "&#") xs) (number 10 0 2 (drop 2 xs)) (entityNamed names xs)
     (λ b. some-digit 4 (length xs) 10 2 (drop 2 xs) (omega arith) (omega (arith, length-drop 2 xs, text-fits (text "&#") xs 0 (omega arith) b)))
     (λ _. named-good names xs names-fine))
 

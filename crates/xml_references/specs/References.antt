@@ -38,15 +38,15 @@ names =
     ∷ (text "&quot;", code "\"") ∷ []
 
 -- the first text of a list with which the bytes begin
-unfoldable pub named : List Named → List ℕ → Reference
-named [] xs = Nothing
-named (n ∷ ns) xs = pick (begins (n .0) xs) (Char (length (n .0)) (n .1)) (named ns xs)
+unfoldable pub entityNamed : List Named → List ℕ → Reference
+entityNamed [] xs = Nothing
+entityNamed (n ∷ ns) xs = pick (begins (n .0) xs) (Char (length (n .0)) (n .1)) (entityNamed ns xs)
 
 -- the reference with which the bytes begin: &#x..; or &#..; or a name
 unfoldable pub referenceOf : List ℕ → Reference
 referenceOf xs =
     pick (begins (text "&#x") xs) (number 16 0 3 (drop 3 xs))
-    (pick (begins (text "&#") xs) (number 10 0 2 (drop 2 xs)) (named names xs))
+    (pick (begins (text "&#") xs) (number 10 0 2 (drop 2 xs)) (entityNamed names xs))
 
 -- the reference that stands in s at position i
 abbrev pub referenceAt : List ℕ → ℕ → Reference

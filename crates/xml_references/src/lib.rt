@@ -6,7 +6,7 @@ ghost use lib.ListN.{length, drop};
 ghost use lib.Seq.{sets};
 ghost use Rattle.text_scan.specs.Bytes.{text};
 ghost use Rattle.text_scan.specs.Lists.{stands};
-ghost use Rattle.xml_references.specs.References.{digitValue, number, names, named, referenceAt};
+ghost use Rattle.xml_references.specs.References.{digitValue, number, names, entityNamed, referenceAt};
 ghost use Rattle.xml_references.specs.Runs.{valueEnd, textEnd};
 ghost use Rattle.xml_references.specs.Decoded.{replaced, decoded};
 use text_scan::Found;
@@ -73,7 +73,7 @@ fn number_at(s: &[u8], i: usize, start: usize, base: u32) -> Reference
 
 // One of the five names.
 fn name_at(s: &[u8], i: usize) -> Reference
-    ensures { λ r. ⌜ r ≡ named names (drop i (now (s .entry))) ⌝ }
+    ensures { λ r. ⌜ r ≡ entityNamed names (drop i (now (s .entry))) ⌝ }
 {
     if text_scan::text_at(s, i, b"&lt;") {
         return Reference::Char(4, 60);

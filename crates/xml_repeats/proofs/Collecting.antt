@@ -12,7 +12,7 @@ use Rattle.xml_distinct.specs.Repeats.{twice}
 use Rattle.xml_attributes.specs.declared.TagPart.{TagPart}
 use Rattle.xml_attributes.specs.declared.TagPart.the-variants.{Read, Ended}
 use Rattle.xml_attributes.specs.declared.Tag.{Tag}
-use Rattle.xml_attributes.specs.Rows.{items}
+use Rattle.xml_attributes.specs.Chains.{items}
 use Rattle.xml_attributes.specs.Parts.{partAt, attributes, repeated}
 use Rattle.xml_attributes.proofs.Parts.{read-named, read-name-within, attributes-go, attributes-stop, attributes-out}
 use Rattle.xml_attributes.proofs.Keeping.{kept-whole}

@@ -5,7 +5,7 @@ use mathlib.Core.Bool.{Bool}
 use mathlib.Core.List.{List}
 use Prim.Native.Nat.{ℕ}
 use Rattle.text_scan.specs.Unique.{only}
-use Rattle.xml_attributes.specs.Rows.{items}
+use Rattle.xml_attributes.specs.Chains.{items}
 use Rattle.xml_attributes.specs.Parts.{attributes, repeated}
 
 pub repeats : (s : List ℕ) (at : ℕ) (x y : Bool) → x ≡ repeated s (items (attributes s at)) → y ≡ repeated s (items (attributes s at)) → x ≡ y

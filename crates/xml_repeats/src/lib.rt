@@ -4,7 +4,7 @@ ghost use Prim.Native.Nat.{_*_, _≤_};
 ghost use lib.ListN.{length, set};
 ghost use lib.Seq.{sets};
 ghost use Rattle.xml_reader.specs.Limits.{documentLimit};
-ghost use Rattle.xml_attributes.specs.Rows.{items};
+ghost use Rattle.xml_attributes.specs.Chains.{items};
 ghost use Rattle.xml_attributes.specs.Parts.{attributes, someNamed, repeated};
 use xml_attributes::TagPart;
 use xml_reader::Reader;

@@ -19,11 +19,11 @@ use Rattle.xml_pieces.specs.declared.Kind.the-variants.{Text, Comment, Instruct
 use Rattle.xml_pieces.specs.declared.Scanned.{Scanned}
 use Rattle.xml_pieces.specs.declared.Scanned.the-variants.{Piece, Refused}
 use Rattle.xml_pieces.proofs.Within.{Within}
-use Rattle.xml_steps.specs.Reading.{Reading, Read, refused, row, parentOf, passed, added, closed, hasRoom, adding, isNamed, contentFits, closing, byPiece}
+use Rattle.xml_steps.specs.Reading.{Reading, Read, refused, elementRow, parentOf, passed, added, closed, hasElementRoom, adding, isNamed, contentFits, closing, byPiece}
 use Rattle.xml_steps.specs.Walked.{Sound}
 
 -- ---- what a list has after a row is added, or a number stored
-in-row : (P : ℕ → Type 0) (a b c d : ℕ) → P a → P b → P c → P d → P 0 → (m : ℕ) → P (getD (row a b c d) m 0)
+in-row : (P : ℕ → Type 0) (a b c d : ℕ) → P a → P b → P c → P d → P 0 → (m : ℕ) → P (getD (elementRow a b c d) m 0)
 in-row P a b c d pa pb pc pd p zero = pa
 in-row P a b c d pa pb pc pd p (suc zero) = pb
 in-row P a b c d pa pb pc pd p (suc (suc zero)) = pc
@@ -62,32 +62,32 @@ module _ (n : ℕ) (r : Reading) (j : ℕ) (d : Sound n r) (ahead : r .at < j) (
       }
 
   -- the numbers of the rows with one row more
-  added-low : (k : ℕ) → getD (r .rows ++ row (r .count) (r .top) (r .at) j) k 0 ≤ j
+  added-low : (k : ℕ) → getD (r .rows ++ elementRow (r .count) (r .top) (r .at) j) k 0 ≤ j
   added-low k =
-      inside (length (r .rows)) k (λ h. rw (in-first (r .rows) (row (r .count) (r .top) (r .at) j) k h) (omega (arith, d .low k)))
-      (λ h. rw (in-second (r .rows) (row (r .count) (r .top) (r .at) j) k h) (in-row (λ (x : ℕ). x ≤ j) (r .count) (r .top) (r .at) j (omega (arith, d .counted)) (omega (arith, d .counted, d .inner)) (omega arith) (omega arith) (omega arith) (k - length (r .rows))))
+      inside (length (r .rows)) k (λ h. rw (in-first (r .rows) (elementRow (r .count) (r .top) (r .at) j) k h) (omega (arith, d .low k)))
+      (λ h. rw (in-second (r .rows) (elementRow (r .count) (r .top) (r .at) j) k h) (in-row (λ (x : ℕ). x ≤ j) (r .count) (r .top) (r .at) j (omega (arith, d .counted)) (omega (arith, d .counted, d .inner)) (omega arith) (omega arith) (omega arith) (k - length (r .rows))))
 
   -- the parent in a row behind: of the new row it is the innermost open element, and past it 0
-  new-parent : (k m : ℕ) → r .count ≤ k → m ≡ 4 * k + 1 - 4 * r .count → getD (row (r .count) (r .top) (r .at) j) m 0 ≤ k
+  new-parent : (k m : ℕ) → r .count ≤ k → m ≡ 4 * k + 1 - 4 * r .count → getD (elementRow (r .count) (r .top) (r .at) j) m 0 ≤ k
   new-parent k zero h e = absurd (omega arith)
   new-parent k (suc zero) h e = omega (arith, d .inner)
   new-parent k (suc (suc zero)) h e = absurd (omega arith)
   new-parent k (suc (suc (suc zero))) h e = absurd (omega arith)
   new-parent k (suc (suc (suc (suc m)))) h e = omega arith
 
-  added-above : (k : ℕ) → parentOf (r .rows ++ row (r .count) (r .top) (r .at) j) k ≤ k
+  added-above : (k : ℕ) → parentOf (r .rows ++ elementRow (r .count) (r .top) (r .at) j) k ≤ k
   added-above k =
-      inside (r .count) k (λ h. rw (in-first (r .rows) (row (r .count) (r .top) (r .at) j) (4 * k + 1) (omega (arith, d .wide))) (d .above k))
-      (λ h. rw (in-second (r .rows) (row (r .count) (r .top) (r .at) j) (4 * k + 1) (omega (arith, d .wide))) (new-parent k (4 * k + 1 - length (r .rows)) h (omega (arith, d .wide))))
+      inside (r .count) k (λ h. rw (in-first (r .rows) (elementRow (r .count) (r .top) (r .at) j) (4 * k + 1) (omega (arith, d .wide))) (d .above k))
+      (λ h. rw (in-second (r .rows) (elementRow (r .count) (r .top) (r .at) j) (4 * k + 1) (omega (arith, d .wide))) (new-parent k (4 * k + 1 - length (r .rows)) h (omega (arith, d .wide))))
 
-  pub sound-added : (depth top : ℕ) → hasRoom r ≡ true → depth ≤ r .count + 1 → top ≤ r .count → Sound n (added r j depth top)
+  pub sound-added : (depth top : ℕ) → hasElementRoom r ≡ true → depth ≤ r .count + 1 → top ≤ r .count → Sound n (added r j depth top)
   sound-added depth top room hd ht =
       record {
         within = in-text;
         counted = omega (arith, d .counted);
         few = omega (arith, ltb-true (r .count) elementsLimit (and-left (ltb (r .count) elementsLimit) (ltb (r .depth) depthLimit) room));
         shallow = hd;
-        wide = rw (length-append (r .rows) (row (r .count) (r .top) (r .at) j)) (omega (arith, d .wide));
+        wide = rw (length-append (r .rows) (elementRow (r .count) (r .top) (r .at) j)) (omega (arith, d .wide));
         inner = omega arith;
         low = added-low;
         above = added-above;
@@ -137,7 +137,7 @@ module _ (s : List ℕ) (r t : Reading) (j : ℕ) (d : Sound (length s) r) (ahea
   adding-sound : (depth top : ℕ) → depth ≤ r .count + 1 → top ≤ r .count → adding r j depth top ≡ on t → Sound (length s) t
   unfolding adding
   adding-sound depth top hd ht e =
-      let c = chosen (hasRoom r) (added r j depth top) t (refused 8 (r .at)) e in
+      let c = chosen (hasElementRoom r) (added r j depth top) t (refused 8 (r .at)) e in
       subst (Sound (length s)) (c .1) (sound-added (length s) r j d ahead in-text depth top (c .0) hd ht)
 
   passed-sound : _≡_ {A = Turn Reading Read} (on (passed r j)) (on t) → Sound (length s) t
@@ -161,8 +161,8 @@ behind-piece s r t (Piece Text j) w e = subst (λ (u : Reading). r .at < u .at) 
 behind-piece s r t (Piece Comment j) w e = subst (λ (u : Reading). r .at < u .at) (went (passed r j) t e) (w .0)
 behind-piece s r t (Piece Instruction j) w e = subst (λ (u : Reading). r .at < u .at) (went (passed r j) t e) (w .0)
 behind-piece s r t (Piece Declaration j) w e = subst (λ (u : Reading). r .at < u .at) (went (passed r j) t e) (w .0)
-behind-piece s r t (Piece Start j) w e = subst (λ (u : Reading). r .at < u .at) (chosen (hasRoom r) (added r j _ _) t _ e .1) (w .0)
-behind-piece s r t (Piece Empty j) w e = subst (λ (u : Reading). r .at < u .at) (chosen (hasRoom r) (added r j _ _) t _ e .1) (w .0)
+behind-piece s r t (Piece Start j) w e = subst (λ (u : Reading). r .at < u .at) (chosen (hasElementRoom r) (added r j _ _) t _ e .1) (w .0)
+behind-piece s r t (Piece Empty j) w e = subst (λ (u : Reading). r .at < u .at) (chosen (hasElementRoom r) (added r j _ _) t _ e .1) (w .0)
 behind-piece s r t (Piece End j) w e = subst (λ (u : Reading). r .at < u .at) (closing-on s r t j e) (w .0)
 
 -- a turn that ends at a piece is a refusal
@@ -186,6 +186,6 @@ module _ (P : Read → Type 0) (each : (n place : ℕ) → P (refused n place)) 
   piece-out (Piece Comment j) e = never-out (passed r j) x e
   piece-out (Piece Instruction j) e = never-out (passed r j) x e
   piece-out (Piece Declaration j) e = never-out (passed r j) x e
-  piece-out (Piece Start j) e = picked-out (hasRoom r) (added r j (r .depth + 1) (r .count)) 8 e
-  piece-out (Piece Empty j) e = picked-out (hasRoom r) (added r j (r .depth) (r .top)) 8 e
+  piece-out (Piece Start j) e = picked-out (hasElementRoom r) (added r j (r .depth + 1) (r .count)) 8 e
+  piece-out (Piece Empty j) e = picked-out (hasElementRoom r) (added r j (r .depth) (r .top)) 8 e
   piece-out (Piece End j) e = closing-out j e

@@ -7,13 +7,13 @@ use native.Mathlib.Numerals.{add-one}
 use native.Mathlib.Omega.{arith}
 use lib.ListN.{length, take, set, length-set}
 use lib.Seq.{take-suc-set}
-use Rattle.xml_steps.specs.Reading.{row}
+use Rattle.xml_steps.specs.Reading.{elementRow}
 
 -- a store behind the front makes the front longer by one
 longer : (l p : List ℕ) (i j v : ℕ) → i < length l → j ≡ i + 1 → take i l ≡ p → take j (set l i v) ≡ p ++ (v ∷ [])
 longer l p i j v h e q = rw (e, add-one, take-suc-set l i v h, q)
 
-pub four-stored : (l : List ℕ) (k a b c d : ℕ) → k + 4 ≤ length l → take (k + 4) (set (set (set (set l k a) (k + 1) b) (k + 2) c) (k + 3) d) ≡ take k l ++ row a b c d
+pub four-stored : (l : List ℕ) (k a b c d : ℕ) → k + 4 ≤ length l → take (k + 4) (set (set (set (set l k a) (k + 1) b) (k + 2) c) (k + 3) d) ≡ take k l ++ elementRow a b c d
 four-stored l k a b c d h =
     longer l3 (((take k l ++ (a ∷ [])) ++ (b ∷ [])) ++ (c ∷ [])) (k + 3) (k + 4) d (simp length-set (omega arith)) (omega arith)
     (longer l2 ((take k l ++ (a ∷ [])) ++ (b ∷ [])) (k + 2) (k + 3) c (simp length-set (omega arith)) (omega arith)

@@ -23,20 +23,20 @@ use Rattle.xml_pieces.specs.declared.Kind.the-variants.{Text, Comment, Instruct
 use Rattle.xml_pieces.specs.declared.Scanned.the-variants.{Piece}
 use Rattle.xml_steps.specs.declared.Stepped.{Stepped}
 use Rattle.xml_steps.specs.declared.Stepped.the-variants.{On, Stopped}
-use Rattle.xml_steps.specs.Reading.{Reading, Read, row, passed, adding, isNamed, contentFits, closing, partOf, byPiece}
+use Rattle.xml_steps.specs.Reading.{Reading, Read, elementRow, passed, adding, isNamed, contentFits, closing, documentPart, byPiece}
 use Rattle.xml_steps.specs.Walked.{reading, turnOf, Steps, Roomy}
 
 -- ---- the part of the document
-pub part-inside : (count depth : ℕ) → 0 < depth → Inside ≡ partOf count depth
+pub part-inside : (count depth : ℕ) → 0 < depth → Inside ≡ documentPart count depth
 part-inside count zero h = absurd (omega arith)
 part-inside count (suc depth) h = refl
 
-pub part-after : (count depth : ℕ) → depth ≤ 0 → 0 < count → After ≡ partOf count depth
+pub part-after : (count depth : ℕ) → depth ≤ 0 → 0 < count → After ≡ documentPart count depth
 part-after zero depth h g = absurd (omega arith)
 part-after (suc count) zero h g = refl
 part-after (suc count) (suc depth) h g = absurd (omega arith)
 
-pub part-before : (count depth : ℕ) → depth ≤ 0 → count ≤ 0 → Before ≡ partOf count depth
+pub part-before : (count depth : ℕ) → depth ≤ 0 → count ≤ 0 → Before ≡ documentPart count depth
 part-before zero zero h g = refl
 part-before zero (suc depth) h g = absurd (omega arith)
 part-before (suc count) depth h g = absurd (omega arith)
@@ -61,7 +61,7 @@ module _ (d : Reader) (numbers : List ℕ) (after depth top : ℕ) where
   unfolding reading turnOf adding closing
   too-deep h = rw (le-ltb _ depthLimit h, and-false (ltb (d .count) elementsLimit))
 
-  pub room-left : (numbers′ : List ℕ) → d .count < elementsLimit → d .depth < depthLimit → take (4 * d .count + 4) numbers′ ≡ take (4 * d .count) numbers ++ row (d .count) (d .top) (d .at) after → turnOf (d .at) (On (record { at = after; count = d .count + 1; depth = depth; top = top })) numbers′ ≡ adding (reading d numbers) after depth top
+  pub room-left : (numbers′ : List ℕ) → d .count < elementsLimit → d .depth < depthLimit → take (4 * d .count + 4) numbers′ ≡ take (4 * d .count) numbers ++ elementRow (d .count) (d .top) (d .at) after → turnOf (d .at) (On (record { at = after; count = d .count + 1; depth = depth; top = top })) numbers′ ≡ adding (reading d numbers) after depth top
   unfolding reading turnOf adding closing
   room-left numbers′ h g e =
       let q : 4 * (d .count + 1) ≡ 4 * d .count + 4 = omega arith in

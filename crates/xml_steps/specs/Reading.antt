@@ -31,8 +31,8 @@ fresh = record { at = 0; count = 0; depth = 0; top = 0; rows = [] }
 
 -- what a row has: its number, its parent's, its first byte, the byte after its end. Of an open element the last is the byte
 -- after its start tag
-abbrev pub row : ℕ → ℕ → ℕ → ℕ → List ℕ
-row number parent first after = number ∷ parent ∷ first ∷ after ∷ []
+abbrev pub elementRow : ℕ → ℕ → ℕ → ℕ → List ℕ
+elementRow number parent first after = number ∷ parent ∷ first ∷ after ∷ []
 
 abbrev pub parentOf : List ℕ → ℕ → ℕ
 parentOf rows n = getD rows (4 * n + 1) 0
@@ -50,7 +50,7 @@ passed r after = record { at = after; count = r .count; depth = r .depth; top = 
 -- a tag adds an element inside the innermost open one, after which so many are open, the innermost of this number
 abbrev pub added : Reading → ℕ → ℕ → ℕ → Reading
 added r after depth top =
-    record { at = after; count = r .count + 1; depth = depth; top = top; rows = r .rows ++ row (r .count) (r .top) (r .at) after }
+    record { at = after; count = r .count + 1; depth = depth; top = top; rows = r .rows ++ elementRow (r .count) (r .top) (r .at) after }
 
 -- an end tag closes the innermost open element
 abbrev pub closed : Reading → ℕ → Reading
@@ -58,8 +58,8 @@ closed r after =
     record { at = after; count = r .count; depth = r .depth - 1; top = parentOf (r .rows) (r .top); rows = set (r .rows) (4 * r .top + 3) after }
 
 -- there is room for one element more, also one level deeper
-abbrev pub hasRoom : Reading → Bool
-hasRoom r = ltb (r .count) elementsLimit and ltb (r .depth) depthLimit
+abbrev pub hasElementRoom : Reading → Bool
+hasElementRoom r = ltb (r .count) elementsLimit and ltb (r .depth) depthLimit
 
 -- the name in the end tag is the one in the innermost open element's start tag
 abbrev pub isNamed : List ℕ → Reading → Bool
@@ -74,14 +74,14 @@ pub data Read : Type 0 where
   refused : ℕ → ℕ → Read
   elements : ℕ → List ℕ → Read
 
-abbrev pub partOf : ℕ → ℕ → DocumentPart
-partOf count (suc depth) = Inside
-partOf zero zero = Before
-partOf (suc count) zero = After
+abbrev pub documentPart : ℕ → ℕ → DocumentPart
+documentPart count (suc depth) = Inside
+documentPart zero zero = Before
+documentPart (suc count) zero = After
 
 -- a tag adds an element where there is room
 unfoldable pub adding : Reading → ℕ → ℕ → ℕ → Turn Reading Read
-adding r after depth top = pick (hasRoom r) (on (added r after depth top)) (out (refused 8 (r .at)))
+adding r after depth top = pick (hasElementRoom r) (on (added r after depth top)) (out (refused 8 (r .at)))
 
 -- an end tag closes the innermost open element where the name is the same and the content within the limit
 unfoldable pub closing : List ℕ → Reading → ℕ → Turn Reading Read

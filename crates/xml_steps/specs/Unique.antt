@@ -10,10 +10,10 @@ use Rattle.xml_pieces.specs.declared.DocumentPart.{DocumentPart}
 use Rattle.xml_reader.specs.declared.Reader.{Reader}
 use Rattle.xml_steps.specs.declared.Stepped.{Stepped}
 use Rattle.xml_steps.specs.declared.Stepped.the-variants.{On, Stopped}
-use Rattle.xml_steps.specs.Reading.{Reading, Read, partOf}
+use Rattle.xml_steps.specs.Reading.{Reading, Read, documentPart}
 use Rattle.xml_steps.specs.Walked.{reading, turnOf}
 
-pub part-of : (count depth : ℕ) (x y : DocumentPart) → x ≡ partOf count depth → y ≡ partOf count depth → x ≡ y
+pub part-of : (count depth : ℕ) (x y : DocumentPart) → x ≡ documentPart count depth → y ≡ documentPart count depth → x ≡ y
 part-of count depth x y = only
 
 -- a reader is told by the reading that it stands for

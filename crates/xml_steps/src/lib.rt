@@ -9,7 +9,7 @@ ghost use Rattle.xml_names.specs.Names.{isNameStart, isNameChar, nameAt};
 ghost use Rattle.text_facts.specs.Strings.{equal};
 ghost use Rattle.xml_pieces.specs.declared.Kind.the-variants.{End};
 ghost use Rattle.xml_pieces.specs.declared.Scanned.{Scanned};
-ghost use Rattle.xml_steps.specs.Reading.{row, partOf, adding, closing, byPiece, contentFits};
+ghost use Rattle.xml_steps.specs.Reading.{elementRow, documentPart, adding, closing, byPiece, contentFits};
 ghost use Rattle.xml_steps.specs.Walked.{reading, turnOf, nameBytes, Roomy, Steps};
 use xml_pieces::DocumentPart;
 use xml_pieces::Kind;
@@ -23,7 +23,7 @@ pub enum Stepped {
 }
 
 pub fn part_of(count: usize, depth: usize) -> DocumentPart
-    ensures { λ r. ⌜ r ≡ partOf count depth ⌝ }
+    ensures { λ r. ⌜ r ≡ documentPart count depth ⌝ }
 {
     if 0 < depth {
         return DocumentPart::Inside;
@@ -37,7 +37,7 @@ pub fn part_of(count: usize, depth: usize) -> DocumentPart
 // Writes the row of element n.
 fn put_row(rows: &mut [u32], n: usize, parent: usize, first: usize, after: usize)
     requires { ⌜ (4 * n + 4 ≤ length (now rows)) × (n < elementsLimit) × (parent ≤ documentLimit) × (first ≤ documentLimit) × (after ≤ documentLimit) ⌝ }
-    ensures { λ _. ⌜ (take (4 * n + 4) (now (rows .exit)) ≡ take (4 * n) (now (rows .entry)) ++ row n parent first after) × (length (now (rows .exit)) ≡ length (now (rows .entry))) ⌝ }
+    ensures { λ _. ⌜ (take (4 * n + 4) (now (rows .exit)) ≡ take (4 * n) (now (rows .entry)) ++ elementRow n parent first after) × (length (now (rows .exit)) ≡ length (now (rows .entry))) ⌝ }
 {
     let k = 4 * n;
     rows[k] = n as u32;

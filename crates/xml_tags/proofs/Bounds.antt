@@ -24,11 +24,11 @@ use Rattle.xml_attributes.specs.declared.Tag.{Tag}
 use Rattle.xml_attributes.specs.declared.Tag.the-variants.{Start, Empty, Refused}
 use Rattle.xml_names.specs.ElementNames.{elementEnd}
 use Rattle.xml_attributes.specs.Attributes.{attributeAt}
-use Rattle.xml_attributes.specs.Rows.{Piece, holds, ends, items, ending}
-use Rattle.xml_attributes.specs.Parts.{readAt, partTo, partAt, inRow, pieceAt, attributes, repeated}
+use Rattle.xml_attributes.specs.Chains.{Piece, holds, ends, items, ending}
+use Rattle.xml_attributes.specs.Parts.{readAt, partTo, partAt, inChain, tagPieceAt, attributes, repeated}
 use Rattle.xml_tags.specs.Tags.{pastLimit, isRefused, tagAnswer, tagTo, tagAt}
 use Rattle.xml_names.proofs.ElementNames.{element-least}
-use Rattle.xml_attributes.proofs.Rows.{row-keeps}
+use Rattle.xml_attributes.proofs.Chains.{chain-keeps}
 
 abbrev pub TagWithin : ℕ → ℕ → Tag → Type 0
 TagWithin at m (Start j) = (at < j) × (j ≤ m)
@@ -59,17 +59,17 @@ module _ (s : List ℕ) (at : ℕ) where
       (λ e. omega (arith, space-least s i, text-fits (text "/>") s j (omega arith) e))
       (λ _. pick-case (PartWithin at (length s)) (ltb i j) _ _ (λ _. read-within j (attributeAt s j)) (λ _. tt)))
 
-  in-row-within : (i : ℕ) (x : TagPart) → PartWithin at (length s) x → PieceWithin at (length s) (inRow i x)
-  in-row-within i (Read b n v e) w = tt
-  in-row-within i (Ended t) w = w
+  in-chain-within : (i : ℕ) (x : TagPart) → PartWithin at (length s) x → PieceWithin at (length s) (inChain i x)
+  in-chain-within i (Read b n v e) w = tt
+  in-chain-within i (Ended t) w = w
 
-  piece-within : (i : ℕ) (t : Tag) → at ≤ i → i < length s → pieceAt s i ≡ ends t → TagWithin at (length s) t
-  unfolding pieceAt
-  piece-within i t h g e = subst (PieceWithin at (length s)) e (in-row-within i (partAt s i) (part-within i h))
+  piece-within : (i : ℕ) (t : Tag) → at ≤ i → i < length s → tagPieceAt s i ≡ ends t → TagWithin at (length s) t
+  unfolding tagPieceAt
+  piece-within i t h g e = subst (PieceWithin at (length s)) e (in-chain-within i (partAt s i) (part-within i h))
 
   ending-within : (n : ℕ) → at ≤ n → TagWithin at (length s) (ending (attributes s n))
   unfolding attributes
-  ending-within n h = row-keeps (pieceAt s) (Refused 7) (TagWithin at (length s)) at (length s) piece-within tt n h
+  ending-within n h = chain-keeps (tagPieceAt s) (Refused 7) (TagWithin at (length s)) at (length s) piece-within tt n h
 
   judged-within : (m : ℕ) (bs : List ℕ) (t : Tag) → TagWithin at (length s) t → TagWithin at (length s) (tagAnswer s m bs t)
   unfolding tagAnswer

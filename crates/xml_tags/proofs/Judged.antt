@@ -17,7 +17,7 @@ use Rattle.xml_reader.specs.Limits.{nameLimit, valueLimit, attributesLimit}
 use Rattle.xml_tags.specs.declared.Body.{Body}
 use Rattle.xml_attributes.specs.declared.Tag.the-variants.{Refused}
 use Rattle.xml_names.specs.ElementNames.{elementEnd}
-use Rattle.xml_attributes.specs.Rows.{items, ending}
+use Rattle.xml_attributes.specs.Chains.{items, ending}
 use Rattle.xml_attributes.specs.Parts.{attributes, repeated}
 use Rattle.xml_tags.specs.Tags.{someLong, pastLimit, isRefused, tagAnswer, tagTo, tagAt}
 use Rattle.xml_tags.specs.Reading.{bodyOf}

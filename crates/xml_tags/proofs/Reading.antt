@@ -16,7 +16,7 @@ use Rattle.xml_attributes.specs.declared.TagPart.the-variants.{Read, Ended}
 use Rattle.xml_attributes.specs.declared.Tag.{Tag}
 use Rattle.xml_attributes.specs.declared.Tag.the-variants.{Refused}
 use Rattle.xml_attributes.specs.Attributes.{long, isLong}
-use Rattle.xml_attributes.specs.Rows.{Row, item, last, items, ending}
+use Rattle.xml_attributes.specs.Chains.{Chain, item, last, items, ending}
 use Rattle.xml_attributes.specs.Parts.{partAt, attributes, someAttribute}
 use Rattle.xml_tags.specs.Tags.{someLong}
 use Rattle.xml_tags.specs.Reading.{bodyOf}
@@ -51,7 +51,7 @@ module _ (s : List ℕ) (at i k : ℕ) (over : Bool) (l : Brings s at i k over) 
         (ap (λ t. bodyOf s (k + 1) t (attributes s (e + 1))) (ap (λ a. over or long b a) (read-attribute s i x ex b n v e z) ∙ sym eu))
 
 -- ---- what the reading brings, told of the list
-pub brought : (s : List ℕ) (k : ℕ) (over : Bool) (r : Row Tag) → bodyOf s k over r ≡ record { ending = ending r; count = k + length (items r); over = over or someLong s (items r) }
+pub brought : (s : List ℕ) (k : ℕ) (over : Bool) (r : Chain Tag) → bodyOf s k over r ≡ record { ending = ending r; count = k + length (items r); over = over or someLong s (items r) }
 unfolding bodyOf items ending someAttribute
 brought s k over (last t) =
     let a : k + 0 ≡ k = omega arith in

@@ -14,7 +14,7 @@ use Rattle.xml_attributes.specs.declared.Tag.{Tag}
 use Rattle.xml_attributes.specs.declared.Tag.the-variants.{Start, Empty, Refused}
 use Rattle.xml_names.specs.ElementNames.{elementEnd}
 use Rattle.xml_attributes.specs.Attributes.{isLong}
-use Rattle.xml_attributes.specs.Rows.{items, ending}
+use Rattle.xml_attributes.specs.Chains.{items, ending}
 use Rattle.xml_attributes.specs.Parts.{attributes, repeated, someAttribute}
 
 -- one of them passes a limit

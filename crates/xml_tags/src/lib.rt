@@ -8,7 +8,7 @@ ghost use lib.Seq.{sets};
 ghost use Rattle.text_scan.specs.Choice.{pick, _or_};
 ghost use Rattle.xml_names.specs.Names.{nameAt};
 ghost use Rattle.xml_reader.specs.Limits.{nameLimit, valueLimit};
-ghost use Rattle.xml_attributes.specs.Rows.{items};
+ghost use Rattle.xml_attributes.specs.Chains.{items};
 ghost use Rattle.xml_attributes.specs.Parts.{attributes, someNamed, repeated};
 ghost use Rattle.xml_tags.specs.Tags.{tagAt, isRefused};
 ghost use Rattle.xml_tags.specs.Reading.{bodyOf};

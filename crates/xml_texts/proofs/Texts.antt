@@ -28,23 +28,23 @@ use Rattle.xml_attributes.specs.declared.TagPart.{TagPart}
 use Rattle.xml_attributes.specs.declared.TagPart.the-variants.{Read, Ended as Ends}
 use Rattle.xml_attributes.specs.declared.Tag.{Tag}
 use Rattle.xml_attributes.specs.declared.Tag.the-variants.{Start as Opens, Empty as Stands, Refused as Malformed}
-use Rattle.xml_attributes.specs.Rows.{holds, item, last, items, ending}
+use Rattle.xml_attributes.specs.Chains.{holds, item, last, items, ending}
 use Rattle.xml_attributes.specs.Parts.{partAt, attributes}
 use Rattle.xml_attributes.proofs.Parts.{attributes-go, attributes-stop, attributes-out}
-use Rattle.xml_attributes.proofs.Rows.{row-goes, row-stops, row-out}
+use Rattle.xml_attributes.proofs.Chains.{chain-goes, chain-stops, chain-out}
 use Rattle.xml_pieces.specs.declared.Kind.{Kind}
 use Rattle.xml_pieces.specs.declared.Kind.the-variants.{Text, Comment, Instruction, Declaration, Start, Empty, End}
 use Rattle.xml_pieces.specs.declared.DocumentPart.the-variants.{Inside}
 use Rattle.xml_pieces.specs.declared.Scanned.{Scanned}
 use Rattle.xml_pieces.specs.declared.Scanned.the-variants.{Piece, Refused}
-use Rattle.xml_pieces.specs.Pieces.{found, textAt, pieceAt}
+use Rattle.xml_pieces.specs.Pieces.{found, textPieceAt, pieceAt}
 use Rattle.xml_pieces.proofs.Within as pieces
 use Rattle.xml_texts.specs.declared.Content.{Content}
 use Rattle.xml_texts.specs.declared.Content.the-variants.{Said, Dropped, Ended, Other}
 use Rattle.xml_values.specs.declared.Place.{Place}
 use Rattle.xml_values.specs.declared.Place.the-variants.{At, Nothing}
 use Rattle.xml_values.specs.Attributes.{nameAfter, tagFrom}
-use Rattle.xml_texts.specs.Texts.{contentOf, contentAt, stepOf, stepAt, contentFrom, contentTo, contentBehind, textPlace, saying, saidFrom, textOf}
+use Rattle.xml_texts.specs.Texts.{contentOf, contentAt, contentStep, stepAt, contentFrom, contentTo, contentBehind, textPlace, saying, saidFrom, textOf}
 use Rattle.xml_texts.specs.Texts as texts
 use Rattle.xml_values.specs.declared.View.{View}
 use Rattle.xml_values.specs.declared.View.the-variants.{Scratch}
@@ -112,29 +112,29 @@ content-within s i h = of-within i (length s) (pieceAt s i Inside) (pieces.piece
 module _ (s : List ℕ) (i : ℕ) where
   pub content-out : length s ≤ i → contentFrom s i ≡ last NoEnd
   unfolding contentFrom
-  content-out h = row-out (stepAt s) NoEnd (length s) i h
+  content-out h = chain-out (stepAt s) NoEnd (length s) i h
 
   module _ (h : i < length s) (x : Content) (ex : x ≡ contentAt s i) where
-    here : stepAt s i ≡ stepOf i x
+    here : stepAt s i ≡ contentStep i x
     unfolding stepAt
-    here = ap (stepOf i) (sym ex)
+    here = ap (contentStep i) (sym ex)
 
     bounds : Within i (length s) x
     bounds = subst (Within i (length s)) (sym ex) (content-within s i h)
 
     pub content-ended : x ≡ Ended → contentFrom s i ≡ last (EndTag i)
     unfolding contentFrom
-    content-ended z = row-stops (stepAt s) NoEnd (length s) i (EndTag i) h (here ∙ ap (stepOf i) z)
+    content-ended z = chain-stops (stepAt s) NoEnd (length s) i (EndTag i) h (here ∙ ap (contentStep i) z)
 
     pub content-other : x ≡ Other → contentFrom s i ≡ last NoEnd
     unfolding contentFrom
-    content-other z = row-stops (stepAt s) NoEnd (length s) i NoEnd h (here ∙ ap (stepOf i) z)
+    content-other z = chain-stops (stepAt s) NoEnd (length s) i NoEnd h (here ∙ ap (contentStep i) z)
 
     behind : (j : ℕ) → i < j → j ≤ length s → stepAt s i ≡ holds i (j - (i + 1)) → contentFrom s i ≡ item i (contentFrom s j)
     unfolding contentFrom
     behind j g k q =
         let a : i + 1 + (j - (i + 1)) ≡ j = omega arith in
-        rw a at (row-goes (stepAt s) NoEnd (length s) i i (j - (i + 1)) (omega arith) q)
+        rw a at (chain-goes (stepAt s) NoEnd (length s) i i (j - (i + 1)) (omega arith) q)
 
     module _ (j : ℕ) (z : x ≡ Said j) where
       pub said-ahead : i < j
@@ -144,7 +144,7 @@ module _ (s : List ℕ) (i : ℕ) where
       said-inside = (rw z at bounds) .1
 
       pub said-behind : contentFrom s i ≡ item i (contentFrom s j)
-      said-behind = behind j said-ahead said-inside (here ∙ ap (stepOf i) z)
+      said-behind = behind j said-ahead said-inside (here ∙ ap (contentStep i) z)
 
       pub said-next : saidFrom s i ≡ decoded s i j ++ saidFrom s j
       unfolding saidFrom items saying
@@ -161,7 +161,7 @@ module _ (s : List ℕ) (i : ℕ) where
       dropped-inside = (rw z at bounds) .1
 
       pub dropped-behind : contentFrom s i ≡ item i (contentFrom s j)
-      dropped-behind = behind j dropped-ahead dropped-inside (here ∙ ap (stepOf i) z)
+      dropped-behind = behind j dropped-ahead dropped-inside (here ∙ ap (contentStep i) z)
 
       pub dropped-next : saidFrom s i ≡ saidFrom s j
       unfolding saidFrom items saying
@@ -421,7 +421,7 @@ module _ (s : List ℕ) (a e : ℕ) (q : ending (contentFrom s a) ≡ EndTag e) 
       go false z = absurd (no-markup j k (omega (arith, eqb-false j e z)) (g (omega (arith, eqb-false j e z, end-inside s e a q))))
 
   text-here : a < e → contentAt s a ≡ contentOf (found Text (textEnd s a))
-  unfolding contentAt pieceAt textAt
+  unfolding contentAt pieceAt textPieceAt
   text-here h = rw (ne-eqb (getD s a 0) 60 (no-markup a (omega arith) h))
 
   at-run : a < e → (x : Found) → textEnd s a ≡ x → saidFrom s a ≡ part s a e

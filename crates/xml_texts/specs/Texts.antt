@@ -12,7 +12,7 @@ use Rattle.xml_reader.specs.Limits.{valueLimit}
 use Rattle.xml_references.specs.Decoded.{decoded}
 use Rattle.xml_attributes.specs.declared.Tag.{Tag}
 use Rattle.xml_attributes.specs.declared.Tag.the-variants.{Start as Opens, Empty as Stands, Refused as Malformed}
-use Rattle.xml_attributes.specs.Rows.{Piece as Step, holds, ends, Row, items, ending, rowFrom}
+use Rattle.xml_attributes.specs.Chains.{Piece as Step, holds, ends, Chain, items, ending, chainFrom}
 use Rattle.xml_pieces.specs.declared.Kind.the-variants.{Text, Comment, Instruction, Declaration, Start, Empty, End}
 use Rattle.xml_pieces.specs.declared.DocumentPart.the-variants.{Inside}
 use Rattle.xml_pieces.specs.declared.Scanned.{Scanned}
@@ -40,18 +40,18 @@ unfoldable pub contentAt : List ℕ → ℕ → Content
 contentAt s i = contentOf (pieceAt s i Inside)
 
 -- the next piece stands behind this one
-abbrev pub stepOf : ℕ → Content → Step Found
-stepOf i (Said after) = holds i (after - (i + 1))
-stepOf i (Dropped after) = holds i (after - (i + 1))
-stepOf i Ended = ends (EndTag i)
-stepOf i Other = ends NoEnd
+abbrev pub contentStep : ℕ → Content → Step Found
+contentStep i (Said after) = holds i (after - (i + 1))
+contentStep i (Dropped after) = holds i (after - (i + 1))
+contentStep i Ended = ends (EndTag i)
+contentStep i Other = ends NoEnd
 
 unfoldable pub stepAt : List ℕ → ℕ → Step Found
-stepAt s i = stepOf i (contentAt s i)
+stepAt s i = contentStep i (contentAt s i)
 
 -- the pieces of the content that begins at position a, by their positions, and the place of the end tag behind them
-unfoldable pub contentFrom : List ℕ → ℕ → Row Found
-contentFrom s a = rowFrom (stepAt s) NoEnd (length s) a
+unfoldable pub contentFrom : List ℕ → ℕ → Chain Found
+contentFrom s a = chainFrom (stepAt s) NoEnd (length s) a
 
 -- ---- the raw content
 -- one past the limit, which no document that is read has, is none

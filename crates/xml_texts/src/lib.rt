@@ -5,7 +5,7 @@ ghost use Prim.Native.Nat.{_-_, _≤_};
 ghost use lib.ListN.{length, drop};
 ghost use Rattle.text_scan.specs.declared.Found.{Found};
 ghost use Rattle.xml_reader.specs.Limits.{valueLimit};
-ghost use Rattle.xml_attributes.specs.Rows.{ending};
+ghost use Rattle.xml_attributes.specs.Chains.{ending};
 ghost use Rattle.xml_values.specs.Attributes.{tagFrom};
 ghost use Rattle.xml_texts.specs.Texts.{contentOf, contentAt, contentFrom, contentTo, textPlace, saidFrom, textOf};
 ghost use Rattle.xml_values.specs.Views.{plainOf, Shows};

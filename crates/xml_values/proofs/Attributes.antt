@@ -21,11 +21,11 @@ use Rattle.xml_attributes.specs.declared.TagPart.the-variants.{Read, Ended}
 use Rattle.xml_attributes.specs.declared.Tag.{Tag}
 use Rattle.xml_names.specs.ElementNames.{elementEnd}
 use Rattle.xml_attributes.specs.Attributes.{attributeAt}
-use Rattle.xml_attributes.specs.Rows.{items}
+use Rattle.xml_attributes.specs.Chains.{items}
 use Rattle.xml_attributes.specs.Parts.{partAt, attributes, someAttribute}
 use Rattle.xml_attributes.proofs.Attributes.{Inside, attribute-inside}
 use Rattle.xml_attributes.proofs.Parts.{read-attribute, attributes-go, attributes-stop, attributes-out}
-use Rattle.xml_attributes.proofs.Some.{From, row-out, row-ended, row-found, row-next}
+use Rattle.xml_attributes.proofs.Some.{From, chain-out, row-ended, row-found, row-next}
 use Rattle.xml_values.specs.declared.Place.{Place}
 use Rattle.xml_values.specs.declared.Place.the-variants.{At, Nothing}
 use Rattle.xml_values.specs.Attributes.{nameAfter, attributesOf, valuePlace, firstNamed, attributePlace, hasValue, isListed, isOther, hasOther}
@@ -114,7 +114,7 @@ others-start names s first i e = rw e
 module _ (names : List (List ℕ)) (s : List ℕ) (first i : ℕ) (l : Others names s first i) where
   pub others-out : length s ≤ i → false ≡ hasOther s first names
   unfolding hasOther
-  others-out h = row-out (λ b _. isOther names s b) s (nameAfter s first) i l h
+  others-out h = chain-out (λ b _. isOther names s b) s (nameAfter s first) i l h
 
   module _ (h : i < length s) (x : TagPart) (ex : x ≡ partAt s i) where
     pub others-ended : (t : Tag) → x ≡ Ended t → false ≡ hasOther s first names

@@ -24,7 +24,7 @@ use Rattle.xml_attributes.specs.declared.Attribute.the-variants.{At as Attribut
 use Rattle.xml_attributes.specs.declared.TagPart.the-variants.{Ended}
 use Rattle.xml_attributes.specs.declared.Tag.the-variants.{Start}
 use Rattle.xml_attributes.specs.Attributes.{attributeAt}
-use Rattle.xml_attributes.specs.Rows.{items}
+use Rattle.xml_attributes.specs.Chains.{items}
 use Rattle.xml_attributes.specs.Parts.{someAttribute}
 use Rattle.xml_attributes.proofs.Parts.{part-start, attributes-stop}
 use Rattle.xml_values.specs.declared.Place.the-variants.{At, Nothing}

@@ -16,7 +16,7 @@ use Rattle.xml_attributes.specs.declared.Tag.{Tag}
 use Rattle.xml_names.specs.ElementNames.{elementEnd}
 use Rattle.xml_names.specs.Names.{nameIs}
 use Rattle.xml_attributes.specs.Attributes.{attributeAt}
-use Rattle.xml_attributes.specs.Rows.{Row, items}
+use Rattle.xml_attributes.specs.Chains.{Chain, items}
 use Rattle.xml_attributes.specs.Parts.{attributes, someAttribute}
 use Rattle.xml_values.specs.declared.Place.{Place}
 use Rattle.xml_values.specs.declared.Place.the-variants.{At, Nothing}
@@ -31,7 +31,7 @@ unfoldable pub isBare : List ℕ → ℕ → Bool
 isBare s first = eqb (getD s (nameAfter s first) 0) (code ">")
 
 -- the tag's attributes by their positions, and how the tag ends
-abbrev pub tagFrom : List ℕ → ℕ → Row Tag
+abbrev pub tagFrom : List ℕ → ℕ → Chain Tag
 tagFrom s first = attributes s (nameAfter s first)
 
 abbrev pub attributesOf : List ℕ → ℕ → List ℕ

@@ -1,7 +1,7 @@
 -- `judge_asking::fill` meets its contract.
 -- Assumes nothing.
 use mathlib.Core.Path.{_≡_}
-use Rattle.judge_registrations.specs.Registrations.{hasEstablishment}
+use Rattle.judge_operations.specs.Operations.{hasEstablishment}
 use Rattle.judge_answers.specs.Answers.{tablesAt}
 use Rattle.judge_draft.specs.Drafts.{draft}
 use lib.ListN.{length}

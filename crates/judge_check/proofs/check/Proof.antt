@@ -1,33 +1,24 @@
 -- `judge_check::check` meets its contract.
 -- Assumes nothing.
-use Rattle.judge_check.proofs.Chain.{refused-1, refused-2, refused-3, refused-4, all-accepted}
+use Rattle.judge_check.proofs.Chain.{not-admitted, admitted-scratch, all-admitted}
 use borrow.Author.Needs.{needs}
 use Rattle.judge_check.proofs.check.Statement.{statement}
 use Rattle.judge_check.proofs.check.Tie as tie
 
-returns : tie.Need-returns
-returns c = search refused-1
+admit-requires : tie.Need-admit-requires
+admit-requires c κs = search needs
 
-returns-2 : tie.Need-returns-2
-returns-2 c = search refused-2
+enum-known-number : tie.Need-enum-known-number
+enum-known-number c = search needs
 
-returns-3 : tie.Need-returns-3
-returns-3 c = search refused-3
-
-accept-requires : tie.Need-accept-requires
-accept-requires c κs = search needs
-
-enum-known-place : tie.Need-enum-known-place
-enum-known-place c = search needs
-
-enum-known-c : tie.Need-enum-known-c
-enum-known-c c = search needs
+enum-known-sections : tie.Need-enum-known-sections
+enum-known-sections c = search needs
 
 check-under-requires : tie.Need-check-under-requires
-check-under-requires c κs = search needs
+check-under-requires c κs = search admitted-scratch
 
-returns-4 : tie.Need-returns-4
-returns-4 c = search refused-4
+returns : tie.Need-returns
+returns c = search not-admitted
 
 same-length : tie.Need-same-length
 same-length c = search needs
@@ -38,22 +29,19 @@ same-length-2 c = search needs
 same-length-3 : tie.Need-same-length-3
 same-length-3 c = search needs
 
-returns-5 : tie.Need-returns-5
-returns-5 c = search all-accepted
+returns-2 : tie.Need-returns-2
+returns-2 c = search all-admitted
 
 pub check-spec : {M : Type 1} → statement M
 check-spec =
     tie.close
     (tie.spec
-    returns
-    returns-2
-    returns-3
-    accept-requires
-    enum-known-place
-    enum-known-c
+    admit-requires
+    enum-known-number
+    enum-known-sections
     check-under-requires
-    returns-4
+    returns
     same-length
     same-length-2
     same-length-3
-    returns-5)
+    returns-2)

@@ -11,8 +11,8 @@ enum-told c = search needs
 enum-known-found : tie.Need-enum-known-found
 enum-known-found c = search needs
 
-has-requires : tie.Need-has-requires
-has-requires c κs = search needs
+has-property-requires : tie.Need-has-property-requires
+has-property-requires c κs = search needs
 
 returns : tie.Need-returns
 returns c = search has-no-one
@@ -21,4 +21,4 @@ returns-2 : tie.Need-returns-2
 returns-2 c = search has-one
 
 pub one-has-spec : {M : Type 1} → statement M
-one-has-spec = tie.close (tie.spec enum-told enum-known-found has-requires returns returns-2)
+one-has-spec = tie.close (tie.spec enum-told enum-known-found has-property-requires returns returns-2)

@@ -1,7 +1,8 @@
 -- `judge_procedures::of_registrations` meets its contract.
 -- Assumes nothing.
 use mathlib.Core.Path.{refl}
-use Rattle.judge_registrations.specs.Registrations.{breaks31, breaks32, breaks33, demand34, breaks35, breaks36, breaks37, breaks38}
+use Rattle.judge_operations.specs.Operations.{breaks33, demand34, breaks37, breaks38}
+use Rattle.judge_registrations.specs.Registrations.{breaks31, breaks32, breaks35, breaks36}
 use Rattle.judge_procedures.specs.Procedures.{registrationProcedures, numbered, demandIn}
 use Rattle.judge_procedures.proofs.Told.{by-test, by-row, no-registration}
 use borrow.Author.Needs.{needs}

@@ -1,6 +1,6 @@
 -- `judge_registrations::breaks_35` meets its contract.
 -- Assumes nothing.
-use Rattle.judge_registrations.proofs.Operations.{other-35, usa-35, agent-35, address-35}
+use Rattle.judge_registrations.proofs.Agents.{other-35, usa-35, agent-35, address-35}
 use borrow.Author.Tests.{not-true, not-false}
 use borrow.Author.Needs.{needs}
 use Rattle.judge_registrations.proofs.breaks_35.Statement.{statement}

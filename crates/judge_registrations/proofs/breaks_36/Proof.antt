@@ -1,6 +1,6 @@
 -- `judge_registrations::breaks_36` meets its contract.
 -- Assumes nothing.
-use Rattle.judge_registrations.proofs.Operations.{other-36, abroad-36, agent-36, import-36, neither-36}
+use Rattle.judge_registrations.proofs.Agents.{other-36, abroad-36, agent-36, import-36, neither-36}
 use borrow.Author.Tests.{not-true, not-false}
 use borrow.Author.Needs.{needs}
 use Rattle.judge_registrations.proofs.breaks_36.Statement.{statement}

@@ -1,6 +1,6 @@
 -- `judge_registrations::in_usa` meets its contract.
 -- Assumes nothing.
-use Rattle.judge_registrations.proofs.Operations.{usa-nowhere, usa-there}
+use Rattle.judge_registrations.proofs.Agents.{usa-nowhere, usa-there}
 use borrow.Author.Needs.{needs}
 use Rattle.judge_registrations.proofs.in_usa.Statement.{statement}
 use Rattle.judge_registrations.proofs.in_usa.Tie as tie

@@ -17,8 +17,8 @@ returns c = search number-wrong
 is-one-requires-2 : tie.Need-is-one-requires-2
 is-one-requires-2 c κs = search needs
 
-has-requires : tie.Need-has-requires
-has-requires c κs = search needs
+has-property-requires : tie.Need-has-property-requires
+has-property-requires c κs = search needs
 
 returns-2 : tie.Need-returns-2
 returns-2 c = search property-wrong
@@ -37,7 +37,7 @@ one-of-root-spec =
     is-one-requires
     returns
     is-one-requires-2
-    has-requires
+    has-property-requires
     returns-2
     returns-3
     returns-4)

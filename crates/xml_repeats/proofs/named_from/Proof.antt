@@ -6,7 +6,7 @@ use lib.ListN.{length}
 use borrow.Author.Needs.{needs}
 use Rattle.xml_names.specs.Names.{nameIs}
 use Rattle.xml_attributes.proofs.Parts.{read-fits, read-falls}
-use Rattle.xml_attributes.proofs.Some.{From, row-out, row-ended, row-found, row-next}
+use Rattle.xml_attributes.proofs.Some.{From, chain-out, row-ended, row-found, row-next}
 use Rattle.xml_repeats.proofs.named_from.Statement.{statement}
 use Rattle.xml_repeats.proofs.named_from.Tie as tie
 
@@ -47,7 +47,7 @@ loop-again : tie.Need-loop-again Inv-loop μ-loop
 loop-again c = search row-next
 
 returns-3 : tie.Need-returns-3 Inv-loop μ-loop
-returns-3 c = search row-out
+returns-3 c = search chain-out
 
 pub named-from-spec : {M : Type 1} → statement M
 named-from-spec =

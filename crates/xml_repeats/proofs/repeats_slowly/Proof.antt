@@ -5,7 +5,7 @@ use mathlib.Core.Path.{refl}
 use lib.ListN.{length}
 use borrow.Author.Needs.{needs}
 use Rattle.xml_attributes.proofs.Parts.{read-name-within, read-name-ahead, read-fits, read-falls}
-use Rattle.xml_attributes.proofs.Some.{From, namedAgain, row-out, row-ended, repeat-found, repeat-next}
+use Rattle.xml_attributes.proofs.Some.{From, namedAgain, chain-out, row-ended, repeat-found, repeat-next}
 use Rattle.xml_repeats.proofs.repeats_slowly.Statement.{statement}
 use Rattle.xml_repeats.proofs.repeats_slowly.Tie as tie
 
@@ -58,7 +58,7 @@ loop-again : tie.Need-loop-again Inv-loop μ-loop
 loop-again c = search repeat-next
 
 returns-3 : tie.Need-returns-3 Inv-loop μ-loop
-returns-3 c = search row-out
+returns-3 c = search chain-out
 
 pub repeats-slowly-spec : {M : Type 1} → statement M
 repeats-slowly-spec =

@@ -2,7 +2,7 @@
 -- Assumes nothing.
 use Rattle.sort_compare.proofs.Parts.{next-least}
 use native.Mathlib.Omega.{arith}
-use Rattle.sort_compare.proofs.Comparing.{RowsFrom, rows-start, rows-same, rows-alike, first-room, second-room, row-less, row-more, rows-inside, row-goes, field-over}
+use Rattle.sort_compare.proofs.Comparing.{RowsFrom, rows-start, rows-same, rows-alike, first-room, second-room, row-less, row-more, rows-inside, chain-goes, field-over}
 use lib.ListN.{length}
 use Prim.Native.Nat.{_+_, _-_, _<_, _^_}
 use borrow.Author.Needs.{needs}
@@ -114,7 +114,7 @@ loop-again-2 c =
     let g = b .before .before .before .before .before .before .before .before .good .0 in
     let i = h .0 in
     let j = h .1 in
-    (search needs, search needs, row-goes _ _ _ _ _ _ _ _ l (a .before .before .before .loop-test .taken) _ (b .before .unit .ensures) _ (b .unit2 .ensures) (c .before .before .if1 .left) (c .before .if2 .left) (c .if3 .left))
+    (search needs, search needs, chain-goes _ _ _ _ _ _ _ _ l (a .before .before .before .loop-test .taken) _ (b .before .unit .ensures) _ (b .unit2 .ensures) (c .before .before .if1 .left) (c .before .if2 .left) (c .if3 .left))
 
 returns-3 : tie.Need-returns-3 Inv-loop μ-loop
 returns-3 c = search (rows-same _ _ _ _ _ _ _ _ (c .before .loop .inv .2))

@@ -1,0 +1,2 @@
+pub mod Admitted
+mod Cleared
