@@ -1,14 +1,17 @@
--- Demand 2, of a check that is not refused: the list holds a procedure and an element exactly when the procedure is broken there, and it is empty
--- exactly when nothing is. Each law is that of the list which is told of a draft, at the draft that was read.
+-- Demand 2 (law `demand-2`): if a check answers n findings, then the record of a procedure and an element stands among the first n of its list
+-- exactly if the procedure is broken there, and n is 0 exactly if nothing is. The laws before it are those of the list which is told of a draft.
 -- Assumes nothing.
-use mathlib.Core.Path.{_≡_}
+use mathlib.Core.Path.{_≡_, refl, sym, _∙_, ap}
 use mathlib.Core.Bool.{true, false}
-use mathlib.Core.List.{List, []}
-use Prim.Native.Nat.{ℕ, _-_, _/_, _<_}
+use mathlib.Core.List.{List, [], _∷_}
+use Prim.Native.Nat.{ℕ, _-_, _*_, _/_, _<_}
 use native.Mathlib.Omega.{arith}
-use lib.ListN.{length}
+use lib.ListN.{length, take, drop}
+use lib.Seq.{take-append-seam}
 use Rattle.list_findings.specs.declared.Finding.{Finding}
+use Rattle.list_findings.specs.Findings.{width, records, flat}
 use Rattle.list_findings.specs.Lists.{has}
+use Rattle.list_findings.proofs.Records.{records-flat, length-flat}
 use Rattle.table_file.specs.Accepted.{tablesOf}
 use Rattle.xml_steps.specs.Reading.{elements}
 use Rattle.xml_elements.specs.Elements.{elementsOf}
@@ -19,8 +22,12 @@ use Rattle.judge_findings.specs.Listed.{finding, broken, findingsOf}
 use Rattle.judge_findings.specs.Holding.{Judged, Holds, InDocumentOrder}
 use Rattle.judge_findings.proofs.Listed.{held-exactly, listed-holds, empty-unbroken, unbroken-empty}
 use Rattle.judge_notes.proofs.Noted.{notes-length, note-first, note-after}
-use Rattle.judge_document.specs.Drafted.{draftAs, typeIn, draftOf}
-use Rattle.judge_check.specs.Accepted.{foundIn}
+use Rattle.judge_type.specs.Drafted.{draftAs, typeIn, draftOf}
+use Rattle.judge_findings.specs.declared.Answer.the-variants.{Findings}
+use Rattle.judge_check.specs.Check.{checkOf}
+use Rattle.judge_check.specs.Accepted.{foundIn, Accepted}
+use Rattle.judge_check.proofs.Accepted.{accepted-check}
+use Rattle.judge_promises.specs.Right.{front, Right}
 
 -- ---- the draft that was read is in document order
 module _ (s : List ℕ) (k : ℕ) (rows : List ℕ) (e : elementsOf s ≡ elements k rows) where
@@ -60,3 +67,34 @@ module _ (s : List ℕ) (k : ℕ) (rows : List ℕ) (e : elementsOf s ≡ elemen
     pub nothing-empty : ((n p : ℕ) → Judged (draftOf s rows) n p → broken (draftOf s rows) (headerOf (draftOf s rows)) (tablesOf file) n p ≡ false) → foundIn s rows file ≡ []
     unfolding foundIn findingsOf
     nothing-empty f = unbroken-empty (draftOf s rows) (broken (draftOf s rows) (headerOf (draftOf s rows)) (tablesOf file)) f
+
+-- ---- of a check
+no-findings : (rs : List Finding) → length rs ≡ 0 → rs ≡ []
+no-findings [] e = refl
+no-findings (r ∷ rs) e = absurd (omega arith)
+
+module _ (s file list : List ℕ) (n : ℕ) (after : List ℕ) (a : Accepted s file list n after) where
+  abbrev found : List Finding
+  found = foundIn s (a .rows) file
+
+  -- the list's front is what was found
+  front-is : front n after ≡ found
+  front-is =
+      let w : n * width ≡ length (flat found) = omega (arith, a .many, length-flat found) in
+      ap (λ x. records (take (n * width) x)) (a .holds)
+      ∙ (rw w (ap records (take-append-seam (flat found) (drop (length (flat found)) list))) ∙ records-flat found)
+
+  pub all-right : Right s file n after
+  all-right =
+      record {
+        count = a .count;
+        rows = a .rows;
+        read = a .read;
+        exactly = λ k p j. ap (has (finding (draftOf s (a .rows)) k p)) front-is ∙ found-exactly s (a .count) (a .rows) (a .read) file k p j;
+        only = λ r h. found-only s (a .count) (a .rows) (a .read) file r (sym (ap (has r) front-is) ∙ h);
+        empty = λ e. empty-nothing s (a .count) (a .rows) (a .read) file (no-findings found (sym (a .many) ∙ e));
+        clean = λ f. a .many ∙ ap length (nothing-empty s (a .count) (a .rows) (a .read) file f);
+      }
+
+pub demand-2 : (s file scratch table list : List ℕ) (n : ℕ) → checkOf s file scratch table list .answer ≡ Findings n → Right s file n (checkOf s file scratch table list .list)
+demand-2 s file scratch table list n e = all-right s file list n (checkOf s file scratch table list .list) (accepted-check s file scratch table list n e)
