@@ -14,7 +14,7 @@ use Rattle.xml_values.specs.declared.View.the-variants.{Document, Scratch}
 use Rattle.xml_value_reader.specs.Shown.{ValueOutcome as Reading, Fills}
 use Rattle.program_exports.specs.declared.Numbers.{Numbers}
 use Rattle.program_exports.specs.declared.Part.{Part}
-use Rattle.program_exports.specs.Numbers.{checkNumbers, mergeNumbers, partOf, Checks, Merges, Reads}
+use Rattle.program_exports.specs.Numbers.{checkNumbers, mergeNumbers, shownPart, Checks, Merges, Reads}
 
 -- ---- the check
 module _ (answer : Answer) where
@@ -41,11 +41,11 @@ merge-told a b out answer after r m e = record { answers = e ∙ ap mergeNumbers
 
 -- ---- the value reader
 module _ (view : View) where
-  pub in-document : (a e : ℕ) → view ≡ Document a e → _≡_ {A = Part} (record { in_scratch = 0; first = a; after = e }) (partOf view)
-  in-document a e h = sym (ap partOf h)
+  pub in-document : (a e : ℕ) → view ≡ Document a e → _≡_ {A = Part} (record { in_scratch = 0; first = a; after = e }) (shownPart view)
+  in-document a e h = sym (ap shownPart h)
 
-  pub in-scratch : (n : ℕ) → view ≡ Scratch n → _≡_ {A = Part} (record { in_scratch = 1; first = 0; after = n }) (partOf view)
-  in-scratch n h = sym (ap partOf h)
+  pub in-scratch : (n : ℕ) → view ≡ Scratch n → _≡_ {A = Part} (record { in_scratch = 1; first = 0; after = n }) (shownPart view)
+  in-scratch n h = sym (ap shownPart h)
 
-pub value-told : (x : Reading) (view : View) (after : List ℕ) (r : Part) → Fills x view after → r ≡ partOf view → Reads x r after
-value-told x view after r f e = record { answers = e ∙ ap partOf (f .answers); scratches = f .leaves }
+pub value-told : (x : Reading) (view : View) (after : List ℕ) (r : Part) → Fills x view after → r ≡ shownPart view → Reads x r after
+value-told x view after r f e = record { answers = e ∙ ap shownPart (f .answers); scratches = f .leaves }

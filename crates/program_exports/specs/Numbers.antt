@@ -15,18 +15,22 @@ use Rattle.xml_value_reader.specs.Shown.{ValueOutcome as Reading}
 use Rattle.program_exports.specs.declared.Numbers.{Numbers}
 use Rattle.program_exports.specs.declared.Part.{Part}
 
+-- ---- the number of the interface
+abbrev pub version : ℕ
+version = 1
+
 -- ---- the check: the refusal's number, 0 where nothing is refused
 abbrev pub numberOf : Answer → ℕ
 numberOf (Findings count) = 0
 numberOf (Refused number value) = number
 
 -- what the refusal returns, or the number of findings
-abbrev pub valueOf : Answer → ℕ
-valueOf (Findings count) = count
-valueOf (Refused number value) = value
+abbrev pub returnedOf : Answer → ℕ
+returnedOf (Findings count) = count
+returnedOf (Refused number value) = value
 
 abbrev pub checkNumbers : Answer → Numbers
-checkNumbers answer = record { refusal = numberOf answer; value = valueOf answer }
+checkNumbers answer = record { refusal = numberOf answer; value = returnedOf answer }
 
 -- ---- the merge, likewise
 abbrev pub mergeNumberOf : Merged → ℕ
@@ -41,9 +45,9 @@ abbrev pub mergeNumbers : Merged → Numbers
 mergeNumbers answer = record { refusal = mergeNumberOf answer; value = mergeValueOf answer }
 
 -- ---- the value reader: a part of the document, or the front of the scratch area
-abbrev pub partOf : View → Part
-partOf (Document a e) = record { in_scratch = 0; first = a; after = e }
-partOf (Scratch n) = record { in_scratch = 1; first = 0; after = n }
+abbrev pub shownPart : View → Part
+shownPart (Document a e) = record { in_scratch = 0; first = a; after = e }
+shownPart (Scratch n) = record { in_scratch = 1; first = 0; after = n }
 
 -- ---- the contracts: what is returned, and what the lent memory then holds
 pub record Checks (x : Checking) (numbers : Numbers) (scratch table list : List ℕ) : Type 0 where
@@ -57,5 +61,5 @@ pub record Merges (x : Merging) (numbers : Numbers) (list : List ℕ) : Type 0 w
   pub lists : list ≡ x .list
 
 pub record Reads (x : Reading) (part : Part) (scratch : List ℕ) : Type 0 where
-  pub answers : part ≡ partOf (x .view)
+  pub answers : part ≡ shownPart (x .view)
   pub scratches : scratch ≡ x .scratch

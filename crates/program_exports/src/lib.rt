@@ -1,6 +1,6 @@
-// What programs in C and other languages call: the check, the merge and the value reader. `host/benchdowel.h` declares them.
+// What programs in C and other languages call: the check, the merge, the value reader, and which interface this is. `host/benchdowel.h` declares them.
 ghost use mathlib.Core.Path.{_≡_};
-ghost use Rattle.program_exports.specs.Numbers.{checkNumbers, mergeNumbers, partOf, Checks, Merges, Reads};
+ghost use Rattle.program_exports.specs.Numbers.{version, checkNumbers, mergeNumbers, shownPart, Checks, Merges, Reads};
 ghost use Rattle.judge_check.specs.Check.{checkOf};
 ghost use Rattle.list_findings.specs.Merge.{mergeOf};
 ghost use Rattle.xml_value_reader.specs.Shown.{shownOf};
@@ -53,7 +53,7 @@ fn merge_numbers(answer: Merged) -> Numbers
 }
 
 fn part_of(view: View) -> Part
-    ensures { λ r. ⌜ r ≡ partOf view ⌝ }
+    ensures { λ r. ⌜ r ≡ shownPart view ⌝ }
 {
     match view {
         View::Document(a, e) => Part {
@@ -67,6 +67,14 @@ fn part_of(view: View) -> Part
             after: n,
         },
     }
+}
+
+// The number of this interface: one more wherever a function takes, answers or leaves something else than before.
+#[no_mangle]
+pub extern "C" fn bd_version() -> u32
+    ensures { λ r. ⌜ r ≡ version ⌝ }
+{
+    1
 }
 
 // Checks a document under the tables, and stores its findings from the front of the list.
