@@ -1,4 +1,4 @@
--- In a table in document order (`Ordered` of `xml_nesting`) with no row behind its elements, those that are chosen below n are all that
+-- In a table in document order (`Nested` of `xml_nesting`) with no row behind its elements, those that are chosen below n are all that
 -- are wanted of it, wherever in the table they stand: that the search stops at the end of n loses none.
 -- Assumes nothing.
 use mathlib.Core.Path.{_≡_, refl, sym, _∙_}

@@ -1,9 +1,6 @@
 // Which elements are known and as what.
 ghost use mathlib.Core.Path.{_≡_};
-ghost use mathlib.Core.Bool.{true};
-ghost use Prim.Native.Nat.{_+_, _*_, _/_, _^_, _<_};
-ghost use lib.ListN.{length, getD};
-ghost use Rattle.judge_paths.specs.Paths.{upperTable, labelerTable, organisationTable, entityTable, contactTable, table, roleNamed, isJudged, childRole, hasRow, elementName, roleOf};
+ghost use Rattle.judge_paths.specs.Paths.{upperTable, labelerTable, organisationTable, entityTable, contactTable, table, roleNamed, isJudged, childRole};
 ghost use Rattle.judge_paths.specs.Roles.{Author};
 ghost use Rattle.judge_paths.specs.Words.{wordEnd, childIn};
 
@@ -283,52 +280,6 @@ pub fn child_role(kind: DocumentType, parent: u32, name: &[u8]) -> u32
 {
     if is_judged(kind, parent) {
         return child_named(kind, parent, name);
-    }
-    role::UNKNOWN
-}
-
-// The k-th number of element n's row.
-pub fn row_number(elements: &[u32], n: usize, k: usize) -> usize
-    requires { ⌜ (n < length (now elements) / 4) × (k < 4) ⌝ }
-    ensures { λ r. ⌜ (r ≡ getD (now (elements .entry)) (4 * n + k) 0) × (r < 2 ^ 32) ⌝ }
-{
-    elements[4 * n + k] as usize
-}
-
-// Whether element n has a row in the table, with its parent earlier and its first byte in the document.
-fn has_row(document: &[u8], elements: &[u32], n: usize) -> bool
-    ensures { λ r. ⌜ r ≡ hasRow (now (document .entry)) (now (elements .entry)) n ⌝ }
-{
-    if elements.len() / 4 <= n {
-        return false;
-    }
-    if n <= row_number(elements, n, 1) {
-        return false;
-    }
-    row_number(elements, n, 2) < document.len()
-}
-
-// The role of element n in a parent of that role.
-fn role_below(document: &[u8], elements: &[u32], n: usize, kind: DocumentType, parent: u32) -> u32
-    requires { ⌜ hasRow (now document) (now elements) n ≡ true ⌝ }
-    ensures { λ r. ⌜ r ≡ childRole kind parent (elementName (now (document .entry)) (now (elements .entry)) n) ⌝ }
-{
-    let start = row_number(elements, n, 2) + 1;
-    let end = xml_names::name_end(document, start);
-    child_role(kind, parent, &document[start..end])
-}
-
-// The role of element n, asked of its parent's number: a parent stands earlier in document order.
-pub fn role_of(document: &[u8], elements: &[u32], n: usize, kind: DocumentType) -> u32
-    ensures { λ r. ⌜ r ≡ roleOf (now (document .entry)) (now (elements .entry)) kind n ⌝ }
-{
-    if n == 0 {
-        return role::ROOT;
-    }
-    if has_row(document, elements, n) {
-        let parent = row_number(elements, n, 1);
-        let above = role_of(document, elements, parent, kind);
-        return role_below(document, elements, n, kind, above);
     }
     role::UNKNOWN
 }

@@ -2,7 +2,7 @@
 ghost use mathlib.Core.Path.{_≡_};
 ghost use Prim.Native.Nat.{_+_, _*_, _≤_};
 ghost use mathlib.Core.List.{_++_};
-ghost use lib.ListN.{length, take, drop};
+ghost use lib.ListN.{length, take, drop, getD, set};
 ghost use Rattle.xml_reader.specs.Limits.{documentLimit, elementsLimit};
 ghost use Rattle.xml_elements.specs.Elements.{readFrom, elementsOf, ElementsLeft};
 ghost use Rattle.xml_steps.specs.Reading.{fresh, elements as elements′};
@@ -68,15 +68,27 @@ fn walk(s: &[u8], rows: &mut [u32]) -> Answer
     Answer::Elements(reader.count)
 }
 
-// The first n numbers of `from` are copied to the front of `to`.
-fn copy(from: &[u32], n: usize, to: &mut [u32])
-    requires { ⌜ (n ≤ length (now from)) × (n ≤ length (now to)) ⌝ }
-    ensures { λ _. ⌜ now (to .exit) ≡ take n (now (from .entry)) ++ drop n (now (to .entry)) ⌝ }
+// Writes the four numbers of element k to the table.
+fn put_row(rows: &[u32], k: usize, table: &mut [u32])
+    requires { ⌜ (4 * k + 4 ≤ length (now rows)) × (4 * k + 4 ≤ length (now table)) ⌝ }
+    ensures { λ _. ⌜ now (table .exit) ≡ set (set (set (set (now (table .entry)) (4 * k) (getD (now (rows .entry)) (4 * k) 0)) (4 * k + 1) (getD (now (rows .entry)) (4 * k + 1) 0)) (4 * k + 2) (getD (now (rows .entry)) (4 * k + 2) 0)) (4 * k + 3) (getD (now (rows .entry)) (4 * k + 3) 0) ⌝ }
 {
-    let mut i = 0;
-    while i < n {
-        to[i] = from[i];
-        i += 1;
+    let at = 4 * k;
+    table[at] = rows[at];
+    table[at + 1] = rows[at + 1];
+    table[at + 2] = rows[at + 2];
+    table[at + 3] = rows[at + 3];
+}
+
+// Writes the rows of n elements to the front of the table.
+fn put_rows(rows: &[u32], n: usize, table: &mut [u32])
+    requires { ⌜ (4 * n ≤ length (now rows)) × (4 * n ≤ length (now table)) ⌝ }
+    ensures { λ _. ⌜ now (table .exit) ≡ take (4 * n) (now (rows .entry)) ++ drop (4 * n) (now (table .entry)) ⌝ }
+{
+    let mut k = 0;
+    while k < n {
+        put_row(rows, k, table);
+        k += 1;
     }
 }
 
@@ -88,7 +100,7 @@ fn deliver(rows: &[u32], n: usize, elements: &mut [u32]) -> Answer
     if elements.len() < 4 * n {
         return Answer::Refused(9, n);
     }
-    copy(rows, 4 * n, elements);
+    put_rows(rows, n, elements);
     Answer::Elements(n)
 }
 

@@ -1,4 +1,4 @@
--- `xml_elements::deliver` meets its contract: refusal 9, or the rows are copied.
+-- `xml_elements::deliver` meets its contract: refusal 9, or the rows are written.
 -- Assumes nothing.
 use Rattle.xml_elements.proofs.Outcomes.{too-small, is-filled}
 use borrow.Author.Needs.{needs}
@@ -11,11 +11,8 @@ mul-if1 c = search needs
 returns : tie.Need-returns
 returns c = search too-small
 
-mul-copy : tie.Need-mul-copy
-mul-copy c = search needs
-
-copy-requires : tie.Need-copy-requires
-copy-requires c κs = search needs
+put-rows-requires : tie.Need-put-rows-requires
+put-rows-requires c κs = search needs
 
 same-length : tie.Need-same-length
 same-length c = search needs
@@ -24,4 +21,4 @@ returns-2 : tie.Need-returns-2
 returns-2 c = search is-filled
 
 pub deliver-spec : {M : Type 1} → statement M
-deliver-spec = tie.close (tie.spec mul-if1 returns mul-copy copy-requires same-length returns-2)
+deliver-spec = tie.close (tie.spec mul-if1 returns put-rows-requires same-length returns-2)

@@ -1,10 +1,14 @@
--- `judge_paths::role_below` meets its contract: the name stands behind the first byte.
+-- `judge_notes::role_below` meets its contract: the name stands behind the first byte.
 -- Assumes nothing.
 use Rattle.xml_names.proofs.Names.{name-ahead, name-inside}
 use Rattle.judge_paths.proofs.Walks.{row-within, name-within, name-below}
+use Rattle.judge_notes.proofs.Below.{below-unknown}
 use borrow.Author.Needs.{needs}
-use Rattle.judge_paths.proofs.role_below.Statement.{statement}
-use Rattle.judge_paths.proofs.role_below.Tie as tie
+use Rattle.judge_notes.proofs.role_below.Statement.{statement}
+use Rattle.judge_notes.proofs.role_below.Tie as tie
+
+returns : tie.Need-returns
+returns c = search below-unknown
 
 row-number-requires : tie.Need-row-number-requires
 row-number-requires c κs = (search row-within, search needs)
@@ -27,13 +31,14 @@ part-child-role-end c = search (name-inside, name-within)
 child-role-requires : tie.Need-child-role-requires
 child-role-requires c κs = search needs
 
-returns : tie.Need-returns
-returns c = search name-below
+returns-2 : tie.Need-returns-2
+returns-2 c = search name-below
 
 pub role-below-spec : {M : Type 1} → statement M
 role-below-spec =
     tie.close
     (tie.spec
+    returns
     row-number-requires
     add-start
     name-end-requires
@@ -41,4 +46,4 @@ role-below-spec =
     part-child-role-start
     part-child-role-end
     child-role-requires
-    returns)
+    returns-2)

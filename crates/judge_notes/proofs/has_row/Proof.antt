@@ -1,9 +1,9 @@
--- `judge_paths::has_row` meets its contract: its three tests, in turn.
+-- `judge_notes::has_row` meets its contract: its three tests, in turn.
 -- Assumes nothing.
 use Rattle.judge_paths.proofs.Walks.{row-past, row-late, row-there}
 use borrow.Author.Needs.{needs}
-use Rattle.judge_paths.proofs.has_row.Statement.{statement}
-use Rattle.judge_paths.proofs.has_row.Tie as tie
+use Rattle.judge_notes.proofs.has_row.Statement.{statement}
+use Rattle.judge_notes.proofs.has_row.Tie as tie
 
 returns : tie.Need-returns
 returns c = search row-past

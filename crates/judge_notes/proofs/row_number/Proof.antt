@@ -1,11 +1,11 @@
--- `judge_paths::row_number` meets its contract.
+-- `judge_notes::row_number` meets its contract.
 -- Assumes nothing.
 use Prim.Native.Nat.{_+_, _*_}
 use mathlib.Core.Path.{refl}
 use native.Mathlib.Omega.{arith}
 use borrow.Author.Needs.{needs}
-use Rattle.judge_paths.proofs.row_number.Statement.{statement}
-use Rattle.judge_paths.proofs.row_number.Tie as tie
+use Rattle.judge_notes.proofs.row_number.Statement.{statement}
+use Rattle.judge_notes.proofs.row_number.Tie as tie
 
 mul-result : tie.Need-mul-result
 mul-result c = search needs
