@@ -1,1 +1,2 @@
 pub mod Drafted
+pub mod Agrees
