@@ -1,7 +1,7 @@
 //! Holds the reference and the product against the vectors.
 //!
-//! `vectors FOLDER MERGES` reads `expected.txt` and the documents and tables of the folder, and the file of merges, and says
-//! which answers of either differ from the printed ones.
+//! `vectors FOLDER MERGES` reads `expected.txt`, `own.txt` where it is there, and the documents and tables of the folder, and the file of
+//! merges, and says which answers of either differ from the printed ones.
 
 use std::fmt::Write;
 use std::path::Path;
@@ -18,7 +18,11 @@ fn main() -> ExitCode {
     };
     let folder = Path::new(&folder);
     let read = |name: &str| std::fs::read(folder.join(name)).unwrap_or_else(|error| panic!("{name}: {error}"));
-    let expected = String::from_utf8(read("expected.txt")).expect("a text file");
+    let mut expected = read("expected.txt");
+    if folder.join("own.txt").exists() {
+        expected.extend(read("own.txt"));
+    }
+    let expected = String::from_utf8(expected).expect("a text file");
     let merges = std::fs::read_to_string(&merges).unwrap_or_else(|error| panic!("{merges}: {error}"));
 
     let sides = [

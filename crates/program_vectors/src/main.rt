@@ -306,4 +306,5 @@ fn main() {
     run(b"elements", true, b" element tables as expected, ");
     run(b"examples", false, b" examples as expected, ");
     run(b"expected", false, b" vectors as expected, ");
+    run(b"own", false, b" cases of our own as expected, ");
 }
