@@ -1,7 +1,7 @@
 -- The notes of a document: of each element its role, its parent, its first byte and the byte after its end, in document order.
 -- Assumes nothing.
 use Prim.Native.Nat.{ℕ, zero, suc, _+_, _*_, _/_}
-use mathlib.Core.List.{List, [], _∷_, _++_}
+use mathlib.Core.List.{List, [], _++_}
 use lib.Dec.{leb}
 use lib.ListN.{length, drop}
 use Rattle.text_scan.specs.Choice.{pick}

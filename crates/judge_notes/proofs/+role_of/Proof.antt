@@ -1,17 +1,17 @@
 -- The proof of the cycle of calls {role_of}. The measure is the element's number: a parent stands earlier.
 -- Assumes nothing.
 use borrow.Author.Needs.{needs}
-use Rattle.judge_paths.proofs.Walks.{has-row, has-row-within, role-root, role-none, role-child, parent-falls}
+use Rattle.judge_paths.proofs.Walks.{role-root}
 use Rattle.judge_notes.proofs.Noted.{role-stored}
+use Rattle.judge_notes.proofs.Below.{below-none, below-late, new-parent}
 use Prim.Native.Nat.{ℕ, _<_}
 use borrow.Fn.Kinds.{In}
 use borrow.Fn.PlainCycle.{Measures, is, falls, and}
 use Rattle.judge_notes.proofs.role_of.Reads as role-of
 use Rattle.judge_notes.proofs.role_of.Kinds as role-of-kinds
 use Rattle.judge_notes.proofs.+role_of.Lts-role_of as role-of-lts
-use Rattle.judge_notes.proofs.has_row.Reads as has-row-reads
 use Rattle.judge_notes.proofs.row_number.Reads as row-number-reads
-use Rattle.judge_notes.proofs.role_below.Reads as role-below-reads
+use Rattle.judge_notes.proofs.role_in.Reads as role-in-reads
 use Rattle.judge_notes.proofs.+role_of.{statement}
 use Rattle.judge_notes.proofs.+role_of.Tie.{close}
 
@@ -25,149 +25,123 @@ abbrev role-of-below : ℕ → In 3 role-of-kinds.ps
 role-of-below t = and 3 role-of-kinds.ps (falls 3 role-of-kinds.ps _<_ μ-role-of t) role-of.Pre
 
 role-of-mul-result : (t : ℕ) → role-of-lts.Need-mul-result (
-  has-row-reads.Asked,
-  has-row-reads.Learnt,
   row-number-reads.Asked,
   row-number-reads.Learnt,
   role-of-below t,
   role-of.Post,
-  role-below-reads.Asked,
-  role-below-reads.Learnt,
+  role-in-reads.Asked,
+  role-in-reads.Learnt,
 ) (role-of-at t) role-of.Post
 role-of-mul-result t c = search needs
 
 role-of-mul-result-2 : (t : ℕ) → role-of-lts.Need-mul-result-2 (
-  has-row-reads.Asked,
-  has-row-reads.Learnt,
   row-number-reads.Asked,
   row-number-reads.Learnt,
   role-of-below t,
   role-of.Post,
-  role-below-reads.Asked,
-  role-below-reads.Learnt,
+  role-in-reads.Asked,
+  role-in-reads.Learnt,
 ) (role-of-at t) role-of.Post
 role-of-mul-result-2 t c = search needs
 
 role-of-shared-slice-read-result : (t : ℕ) → role-of-lts.Need-shared-slice-read-result (
-  has-row-reads.Asked,
-  has-row-reads.Learnt,
   row-number-reads.Asked,
   row-number-reads.Learnt,
   role-of-below t,
   role-of.Post,
-  role-below-reads.Asked,
-  role-below-reads.Learnt,
+  role-in-reads.Asked,
+  role-in-reads.Learnt,
 ) (role-of-at t) role-of.Post
 role-of-shared-slice-read-result t c = search needs
 
 role-of-returns : (t : ℕ) → role-of-lts.Need-returns (
-  has-row-reads.Asked,
-  has-row-reads.Learnt,
   row-number-reads.Asked,
   row-number-reads.Learnt,
   role-of-below t,
   role-of.Post,
-  role-below-reads.Asked,
-  role-below-reads.Learnt,
+  role-in-reads.Asked,
+  role-in-reads.Learnt,
 ) (role-of-at t) role-of.Post
 role-of-returns t c = search role-stored
 
 role-of-returns-2 : (t : ℕ) → role-of-lts.Need-returns-2 (
-  has-row-reads.Asked,
-  has-row-reads.Learnt,
   row-number-reads.Asked,
   row-number-reads.Learnt,
   role-of-below t,
   role-of.Post,
-  role-below-reads.Asked,
-  role-below-reads.Learnt,
+  role-in-reads.Asked,
+  role-in-reads.Learnt,
 ) (role-of-at t) role-of.Post
 role-of-returns-2 t c = search role-root
 
-role-of-has-row-requires : (t : ℕ) → role-of-lts.Need-has-row-requires (
-  has-row-reads.Asked,
-  has-row-reads.Learnt,
+role-of-returns-3 : (t : ℕ) → role-of-lts.Need-returns-3 (
   row-number-reads.Asked,
   row-number-reads.Learnt,
   role-of-below t,
   role-of.Post,
-  role-below-reads.Asked,
-  role-below-reads.Learnt,
+  role-in-reads.Asked,
+  role-in-reads.Learnt,
 ) (role-of-at t) role-of.Post
-role-of-has-row-requires t c κs = search needs
+role-of-returns-3 t c = search below-none
 
 role-of-row-number-requires : (t : ℕ) → role-of-lts.Need-row-number-requires (
-  has-row-reads.Asked,
-  has-row-reads.Learnt,
   row-number-reads.Asked,
   row-number-reads.Learnt,
   role-of-below t,
   role-of.Post,
-  role-below-reads.Asked,
-  role-below-reads.Learnt,
+  role-in-reads.Asked,
+  role-in-reads.Learnt,
 ) (role-of-at t) role-of.Post
-role-of-row-number-requires t c κs =
-    let a = c .before .before .before .before .before .before .before .args in
-    (has-row-within (a .document .now) (a .elements .now) (a .n) _ (c .before .has-row .ensures) (c .if3 .taken), search needs)
-
-role-of-role-of-requires : (t : ℕ) → role-of-lts.Need-role-of-requires (
-  has-row-reads.Asked,
-  has-row-reads.Learnt,
-  row-number-reads.Asked,
-  row-number-reads.Learnt,
-  role-of-below t,
-  role-of.Post,
-  role-below-reads.Asked,
-  role-below-reads.Learnt,
-) (role-of-at t) role-of.Post
-role-of-role-of-requires t c κs = (search parent-falls, search needs)
-
-role-of-role-below-requires : (t : ℕ) → role-of-lts.Need-role-below-requires (
-  has-row-reads.Asked,
-  has-row-reads.Learnt,
-  row-number-reads.Asked,
-  row-number-reads.Learnt,
-  role-of-below t,
-  role-of.Post,
-  role-below-reads.Asked,
-  role-below-reads.Learnt,
-) (role-of-at t) role-of.Post
-role-of-role-below-requires t c κs = search has-row
-
-role-of-returns-3 : (t : ℕ) → role-of-lts.Need-returns-3 (
-  has-row-reads.Asked,
-  has-row-reads.Learnt,
-  row-number-reads.Asked,
-  row-number-reads.Learnt,
-  role-of-below t,
-  role-of.Post,
-  role-below-reads.Asked,
-  role-below-reads.Learnt,
-) (role-of-at t) role-of.Post
-role-of-returns-3 t c = search role-child
+role-of-row-number-requires t c κs = search needs
 
 role-of-returns-4 : (t : ℕ) → role-of-lts.Need-returns-4 (
-  has-row-reads.Asked,
-  has-row-reads.Learnt,
   row-number-reads.Asked,
   row-number-reads.Learnt,
   role-of-below t,
   role-of.Post,
-  role-below-reads.Asked,
-  role-below-reads.Learnt,
+  role-in-reads.Asked,
+  role-in-reads.Learnt,
 ) (role-of-at t) role-of.Post
-role-of-returns-4 t c = search role-none
+role-of-returns-4 t c = search below-late
+
+role-of-role-of-requires : (t : ℕ) → role-of-lts.Need-role-of-requires (
+  row-number-reads.Asked,
+  row-number-reads.Learnt,
+  role-of-below t,
+  role-of.Post,
+  role-in-reads.Asked,
+  role-in-reads.Learnt,
+) (role-of-at t) role-of.Post
+role-of-role-of-requires t c κs = (search needs, search needs)
+
+role-of-role-in-requires : (t : ℕ) → role-of-lts.Need-role-in-requires (
+  row-number-reads.Asked,
+  row-number-reads.Learnt,
+  role-of-below t,
+  role-of.Post,
+  role-in-reads.Asked,
+  role-in-reads.Learnt,
+) (role-of-at t) role-of.Post
+role-of-role-in-requires t c κs = search new-parent
+
+role-of-returns-5 : (t : ℕ) → role-of-lts.Need-returns-5 (
+  row-number-reads.Asked,
+  row-number-reads.Learnt,
+  role-of-below t,
+  role-of.Post,
+  role-in-reads.Asked,
+  role-in-reads.Learnt,
+) (role-of-at t) role-of.Post
+role-of-returns-5 t c = search needs
 
 pub +role-of-spec : {M : Type 1} → statement M
 +role-of-spec = close μ-role-of λ t. role-of-lts.spec (
-  has-row-reads.Asked,
-  has-row-reads.Learnt,
   row-number-reads.Asked,
   row-number-reads.Learnt,
   role-of-below t,
   role-of.Post,
-  role-below-reads.Asked,
-  role-below-reads.Learnt,
+  role-in-reads.Asked,
+  role-in-reads.Learnt,
 )
     (role-of-at t)
     role-of.Post
@@ -176,9 +150,9 @@ pub +role-of-spec : {M : Type 1} → statement M
     (role-of-shared-slice-read-result t)
     (role-of-returns t)
     (role-of-returns-2 t)
-    (role-of-has-row-requires t)
-    (role-of-row-number-requires t)
-    (role-of-role-of-requires t)
-    (role-of-role-below-requires t)
     (role-of-returns-3 t)
+    (role-of-row-number-requires t)
     (role-of-returns-4 t)
+    (role-of-role-of-requires t)
+    (role-of-role-in-requires t)
+    (role-of-returns-5 t)

@@ -4,34 +4,43 @@ use Prim.Native.Nat.{_-_, _*_, _/_, _≤_}
 use mathlib.Core.Path.{_≡_, refl}
 use lib.ListN.{length}
 use native.Mathlib.Omega.{arith}
+use Rattle.judge_paths.specs.Paths.{roleOf}
+use Rattle.judge_paths.proofs.Walks.{role-root}
+use Rattle.judge_notes.proofs.Below.{new-parent}
 use Rattle.judge_notes.proofs.Noted.{Stored, front-length, front-stored, stored-more, stored-all}
 use borrow.Author.Needs.{needs}
 use Rattle.judge_notes.proofs.fill_all.Statement.{statement}
 use Rattle.judge_notes.proofs.fill_all.Tie as tie
 
 abbrev Inv-loop : tie.InvT-loop
-Inv-loop document elements kind notes₀ count k₀ notes k = (k ≤ count) × (length notes ≡ length notes₀) × Stored document elements kind notes₀ notes (4 * k)
+Inv-loop document elements kind notes₀ count parent₀ above₀ k₀ notes parent above k = (k ≤ count) × (length notes ≡ length notes₀) × Stored document elements kind notes₀ notes (4 * k) × (above ≡ roleOf document elements kind parent)
 
 abbrev μ-loop : tie.MeasureT-loop
-μ-loop document elements kind notes₀ count k₀ notes k = count - k
+μ-loop document elements kind notes₀ count parent₀ above₀ k₀ notes parent above k = count - k
 
 loop-holds : tie.Need-loop-holds Inv-loop μ-loop
-loop-holds c = (omega arith, refl, refl)
+loop-holds c = (omega arith, refl, refl, role-root _ _ _ 0 refl)
+
+row-number-requires : tie.Need-row-number-requires Inv-loop μ-loop
+row-number-requires c κs = search needs
 
 mul-end : tie.Need-mul-end Inv-loop μ-loop
 mul-end c = search needs
 
-sub-role-of : tie.Need-sub-role-of Inv-loop μ-loop
-sub-role-of c = search needs
+sub-role-at : tie.Need-sub-role-at Inv-loop μ-loop
+sub-role-at c = search needs
 
-part-role-of-start : tie.Need-part-role-of-start Inv-loop μ-loop
-part-role-of-start c = search needs
+part-role-at-start : tie.Need-part-role-at-start Inv-loop μ-loop
+part-role-at-start c = search needs
 
-part-role-of-end : tie.Need-part-role-of-end Inv-loop μ-loop
-part-role-of-end c = search needs
+part-role-at-end : tie.Need-part-role-at-end Inv-loop μ-loop
+part-role-at-end c = search needs
 
-role-of-requires : tie.Need-role-of-requires Inv-loop μ-loop
-role-of-requires c κs = (search front-length, search front-stored)
+role-at-requires : tie.Need-role-at-requires Inv-loop μ-loop
+role-at-requires c κs = (search needs, search front-length, search front-stored)
+
+role-in-requires : tie.Need-role-in-requires Inv-loop μ-loop
+role-in-requires c κs = (search needs, search new-parent)
 
 put-note-requires : tie.Need-put-note-requires Inv-loop μ-loop
 put-note-requires c κs = search needs
@@ -43,7 +52,7 @@ loop-less : tie.Need-loop-less Inv-loop μ-loop
 loop-less c = search needs
 
 loop-again : tie.Need-loop-again Inv-loop μ-loop
-loop-again c = (search needs, search needs, search stored-more)
+loop-again c = (search needs, search needs, search stored-more, search needs)
 
 same-length : tie.Need-same-length Inv-loop μ-loop
 same-length c = search needs
@@ -58,11 +67,13 @@ fill-all-spec =
     Inv-loop
     μ-loop
     loop-holds
+    row-number-requires
     mul-end
-    sub-role-of
-    part-role-of-start
-    part-role-of-end
-    role-of-requires
+    sub-role-at
+    part-role-at-start
+    part-role-at-end
+    role-at-requires
+    role-in-requires
     put-note-requires
     add-k
     loop-less
