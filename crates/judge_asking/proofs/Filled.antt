@@ -1,9 +1,9 @@
 -- The marks are stored one after another, and what they tell of is counted: what is left is told of the elements that are left.
 -- Assumes nothing.
 use mathlib.Core.Path.{_≡_, refl, sym, _∙_, ap}
-use mathlib.Core.Bool.{Bool, false}
-use mathlib.Core.List.{List, [], _∷_, _++_}
-use Prim.Native.Nat.{ℕ, zero, suc, _+_, _-_, _*_, _/_, _<_, _≤_, _^_}
+use mathlib.Core.Bool.{false}
+use mathlib.Core.List.{List, [], _∷_}
+use Prim.Native.Nat.{ℕ, zero, suc, _+_, _-_, _*_, _/_, _<_, _≤_}
 use native.Mathlib.Omega.{arith}
 use lib.ListN.{length, set, length-set, length-append}
 use lib.Seq.{sets}
@@ -12,9 +12,9 @@ use mir.Syntax.{w64}
 use Rattle.xml_reader.specs.Limits.{elementsLimit}
 use Rattle.list_findings.specs.Findings.{lastProcedure}
 use Rattle.table_file.specs.Accepted.{Tables}
-use Rattle.judge_draft.specs.Drafts.{Draft, draft, role, elementCount}
+use Rattle.judge_draft.specs.Drafts.{Draft, draft, role}
 use Rattle.judge_header.specs.declared.Header.{Header}
-use Rattle.judge_procedures.specs.Procedures.{demandOf, foundAt}
+use Rattle.judge_procedures.specs.Procedures.{foundAt}
 use Rattle.judge_procedures.proofs.Elsewhere.{elsewhere}
 use Rattle.judge_answers.specs.Answers.{isBroken}
 use Rattle.judge_findings.specs.Listed.{broken, listedAt, listedFrom, listed}

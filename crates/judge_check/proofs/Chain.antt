@@ -1,9 +1,9 @@
 -- The chain of refusals, one law for each: what each answers and leaves is the outcome that the definition gives.
 -- Assumes nothing.
-use mathlib.Core.Path.{_≡_, refl, sym, _∙_, ap, subst}
+use mathlib.Core.Path.{_≡_, refl, sym, _∙_, ap}
 use mathlib.Core.Bool.{Bool, true, false}
-use mathlib.Core.List.{List, [], _∷_, _++_}
-use Prim.Native.Nat.{ℕ, _+_, _-_, _*_, _/_, _<_, _≤_}
+use mathlib.Core.List.{List, _++_}
+use Prim.Native.Nat.{ℕ, _+_, _-_, _*_, _/_, _≤_}
 use native.Mathlib.Omega.{arith}
 use borrow.Author.Tests.{le-leb, leb-true}
 use lib.Dec.{leb}
@@ -22,15 +22,14 @@ use Rattle.judge_input.proofs.Admitted.{Admits, admits}
 use Rattle.xml_elements.specs.declared.Answer.{Answer as Reading}
 use Rattle.xml_elements.specs.declared.Answer.the-variants.{Elements, Refused as NotRead}
 use Rattle.xml_steps.specs.Reading.{Read, refused, elements}
-use Rattle.xml_elements.specs.Elements.{elementsOf, answerOf, tableAfter, ElementsLeft as Reads}
+use Rattle.xml_elements.specs.Elements.{elementsOf, ElementsLeft as Reads}
 use Rattle.xml_nesting.proofs.Read.{Rows, rows-read}
 use Rattle.judge_findings.specs.Listed.{findingsOf}
 use Rattle.judge_findings.specs.declared.Answer.{Answer}
-use Rattle.judge_findings.specs.declared.Answer.the-variants.{Findings, Refused}
+use Rattle.judge_findings.specs.declared.Answer.the-variants.{Refused}
 use Rattle.judge_type.specs.Drafted.{draftOf}
-use Rattle.judge_check.specs.Long.{longValue}
 use Rattle.judge_findings.specs.Room.{answerIn, listIn, FindingsLeft}
-use Rattle.judge_check.specs.Check.{Outcome, afterReading, checkOf, CheckLeft}
+use Rattle.judge_check.specs.Check.{afterReading, checkOf, CheckLeft}
 use Rattle.judge_check.proofs.Values.{none-long}
 
 -- ---- what a reading answered

@@ -1,5 +1,4 @@
 // The check: refusals 1 to 11, and the findings of a draft under the tables.
-ghost use mathlib.Core.Path.{_≡_};
 ghost use Prim.Native.Nat.{_≤_};
 ghost use lib.ListN.{length};
 ghost use Rattle.xml_reader.specs.Limits.{scratchLimit};

@@ -8,15 +8,15 @@ use mathlib.Core.List.{List, [], _∷_, _++_}
 use Prim.Native.Nat.{ℕ, zero, suc, _+_, _-_, _<_, _≤_}
 use native.Mathlib.Omega.{arith}
 use borrow.Author.Tests.{lt-ltb, le-leb, eqb-true, eqb-false, ltb-true, ltb-false}
-use lib.Dec.{ltb, leb, eqb}
+use lib.Dec.{ltb, eqb}
 use Rattle.text_scan.specs.Choice.{pick, _or_, _and_}
 use Rattle.text_scan.proofs.Tests.{never, pick-case}
 use Rattle.list_findings.specs.declared.Finding.{Finding}
 use Rattle.list_findings.specs.declared.Class.{Class}
-use Rattle.list_findings.specs.Findings.{precedes, lastProcedure, isValid}
+use Rattle.list_findings.specs.Findings.{lastProcedure, isValid}
 use Rattle.list_findings.specs.Lists.{Ordered, All, Good, same, has}
 use Rattle.list_findings.proofs.Order.{first-below, first-same}
-use Rattle.list_findings.proofs.Lists.{same-is, same-self, has-head, has-tail, has-cases}
+use Rattle.list_findings.proofs.Lists.{same-self, has-head, has-tail, has-cases}
 use Rattle.judge_draft.specs.Drafts.{Draft, elementCount, first, after}
 use Rattle.judge_findings.specs.Listed.{finding, listedAt, listedFrom, listed}
 use Rattle.judge_findings.specs.Holding.{Judged, Holds, InDocumentOrder}

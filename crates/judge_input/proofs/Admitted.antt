@@ -12,7 +12,6 @@ use Rattle.text_scan.specs.Choice.{pick}
 use Rattle.xml_reader.specs.Limits.{documentLimit, tablesLimit, scratchLimit}
 use Rattle.table_file.specs.declared.Accepted.{Accepted}
 use Rattle.table_file.specs.Accepted.{accepted, tablesOf}
-use Rattle.judge_input.specs.declared.Input.{Input}
 use Rattle.judge_input.specs.declared.Input.the-variants.{Refused, Tables}
 use Rattle.judge_input.specs.declared.Sections.{Sections}
 use Rattle.judge_input.specs.Input.{ofFile, admitted, sectionTables}

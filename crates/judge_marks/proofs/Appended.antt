@@ -3,18 +3,16 @@
 use mathlib.Core.Path.{_≡_, refl, sym, _∙_, ap}
 use mathlib.Core.Bool.{Bool, true, false}
 use mathlib.Core.List.{List, [], _∷_, _++_}
-use Prim.Native.Nat.{ℕ, zero, suc, _+_, _-_, _*_, _/_, _%_, _<_, _≤_, _^_}
+use Prim.Native.Nat.{ℕ, zero, suc, _+_, _-_, _*_, _/_, _%_, _<_, _≤_}
 use native.Mathlib.Omega.{arith}
 use borrow.Author.Tests.{lt-ltb, le-ltb, le-leb, lt-leb, eq-eqb, ne-eqb}
-use lib.Dec.{ltb, eqb, leb}
 use lib.ListN.{length, take, drop, getD, set, length-append, drop-of-length-le}
 use lib.Seq.{sets, length-sets, getD-take, length-take-le}
 use mir.Val.{Fits}
 use mir.Syntax.{w64}
-use Rattle.text_scan.specs.Choice.{pick}
 use Rattle.text_scan.proofs.Within.{drop-here}
 use Rattle.list_findings.specs.declared.Finding.{Finding}
-use Rattle.list_findings.specs.Findings.{lastProcedure, width, flat, filled, stored}
+use Rattle.list_findings.specs.Findings.{width, flat, filled, stored}
 use Rattle.list_findings.proofs.Filling.{filled-sets, one-stored, length-stored}
 use Rattle.list_findings.proofs.Records.{length-flat}
 use Rattle.list_writer.specs.Listed.{listAfter, countAfter}

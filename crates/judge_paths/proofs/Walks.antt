@@ -28,33 +28,11 @@ module _ (s rows : List ℕ) (n : ℕ) where
     pub row-there : p < n → (f : ℕ) → f ≡ getD rows (4 * n + 2) 0 → ltb f (length s) ≡ hasRow s rows n
     row-there g f q = rw (lt-ltb n (length rows / 4) h, ← e, lt-ltb p n g, ← q)
 
-  module _ (e : hasRow s rows n ≡ true) where
-    pub row-within : n < length rows / 4
-    row-within = ltb-true n (length rows / 4) (and-left (ltb n (length rows / 4)) (ltb (parentOf rows n) n and ltb (firstOf rows n) (length s)) e)
-
-    rest : ltb (parentOf rows n) n and ltb (firstOf rows n) (length s) ≡ true
-    rest = and-right (ltb n (length rows / 4)) (ltb (parentOf rows n) n and ltb (firstOf rows n) (length s)) e
-
-    pub parent-earlier : parentOf rows n < n
-    parent-earlier = ltb-true (parentOf rows n) n (and-left (ltb (parentOf rows n) n) (ltb (firstOf rows n) (length s)) rest)
-
-    pub first-within : firstOf rows n < length s
-    first-within = ltb-true (firstOf rows n) (length s) (and-right (ltb (parentOf rows n) n) (ltb (firstOf rows n) (length s)) rest)
-
-    -- the same of numbers that were read
-    pub name-within : (f : ℕ) → f ≡ getD rows (4 * n + 2) 0 → f + 1 ≤ length s
-    name-within f q = omega (arith, first-within)
-
--- the same of a test that was made
-module _ (s rows : List ℕ) (n : ℕ) (b : Bool) (e : b ≡ hasRow s rows n) (f : b ≡ true) where
-  pub has-row : hasRow s rows n ≡ true
-  has-row = sym e ∙ f
-
-  pub has-row-within : n < length rows / 4
-  has-row-within = row-within s rows n has-row
-
-  pub parent-falls : (p m : ℕ) → n ≡ m → p ≡ getD rows (4 * n + 1) 0 → p < m
-  parent-falls p m q g = omega (arith, parent-earlier s rows n has-row)
+  pub parent-earlier : hasRow s rows n ≡ true → parentOf rows n < n
+  parent-earlier e =
+      ltb-true (parentOf rows n) n
+      (and-left (ltb (parentOf rows n) n) (ltb (firstOf rows n) (length s))
+      (and-right (ltb n (length rows / 4)) (ltb (parentOf rows n) n and ltb (firstOf rows n) (length s)) e))
 
 -- the name behind the first byte
 pub name-below : (s rows : List ℕ) (n : ℕ) (kind : DocumentType) (parent r : ℕ) (f e : ℕ) → f ≡ getD rows (4 * n + 2) 0 → e ≡ nameEnd s (f + 1) → r ≡ childRole kind parent (take (e - (f + 1)) (drop (f + 1) s)) → r ≡ childRole kind parent (elementName s rows n)

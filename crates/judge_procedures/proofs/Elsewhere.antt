@@ -5,12 +5,11 @@ use mathlib.Core.Bool.{Bool, true, false}
 use mathlib.Core.List.{List, [], _∷_}
 use Prim.Native.Nat.{ℕ}
 use lib.Dec.{eqb}
-use Rattle.text_scan.specs.Choice.{pick, _or_}
+use Rattle.text_scan.specs.Choice.{pick}
 use Rattle.text_scan.proofs.Tests.{or-left, or-right}
 use Rattle.judge_paths.specs.Roles.{Addr, Agent, Code, ContactParty, EffectiveTime, Entity1, Entity2, Entity3, Entity4, Establishment, Id, Labeler, OperationCode, OrganisationId, OrganisationName, Registrant, RequestEntity, RequestLabeler, Root, SetId, Telecom, Unlisted, VersionNumber}
 use Rattle.judge_paths.specs.Roles.{isKnownRole}
 use Rattle.judge_paths.specs.Attributes.{isRole}
-use Rattle.judge_draft.specs.declared.Demand.{Demand}
 use Rattle.judge_draft.specs.declared.Demand.the-variants.{Nothing}
 use Rattle.judge_draft.specs.Demands.{brokenIf}
 use Rattle.judge_draft.specs.Drafts.{Draft, role, is, isKnown}

@@ -1,7 +1,7 @@
 -- Demand 3: the merge of a draft's lists under two files is its list under their join, and is never refused. No procedure is named: the class of
 -- each procedure suits what it demands, and a demand is answered under the join as its class says.
 -- Assumes nothing.
-use mathlib.Core.Path.{_≡_, refl, sym, _∙_}
+use mathlib.Core.Path.{_≡_, refl}
 use mathlib.Core.Bool.{Bool}
 use mathlib.Core.List.{List}
 use Prim.Native.Nat.{ℕ}
@@ -14,14 +14,13 @@ use Rattle.list_findings.proofs.Good.{good-flat}
 use Rattle.table_file.specs.Accepted.{Tables, tablesOf}
 use Rattle.table_join.specs.Joins.{Joins}
 use Rattle.judge_draft.specs.Drafts.{Draft, elementCount}
-use Rattle.judge_header.specs.declared.Header.{Header}
 use Rattle.judge_header.specs.Header.{headerOf}
 use Rattle.judge_procedures.specs.Procedures.{demandOf}
 use Rattle.judge_promises.specs.Suits.{suits}
 use Rattle.judge_findings.specs.Listed.{broken, findingsOf}
 use Rattle.judge_findings.specs.Holding.{InDocumentOrder}
 use Rattle.judge_promises.proofs.Classes.{class-suits, document-alike, answer-joined}
-use Rattle.judge_findings.proofs.Together.{Mark, these, Right, Agrees, together}
+use Rattle.judge_findings.proofs.Together.{Right, Agrees, together}
 use Rattle.judge_findings.proofs.Listed.{mark, marksFrom, marks-ordered, marks-right, these-listed, listed-good}
 
 answered-alike : (d : Draft) (t u : Tables) (n p : ℕ) → classOf p ≡ DocumentOnly → broken d (headerOf d) t n p ≡ broken d (headerOf d) u n p
