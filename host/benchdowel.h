@@ -7,7 +7,7 @@
  *
  * - a pointer, never null, to as many items as the length behind it says, aligned for its type; of a length of 0 no item is read;
  * - memory that is lent to be written shares no byte with anything else that is passed in the same call;
- * - 4 MiB of stack;
+ * - BD_STACK bytes of stack;
  * - for two calls at the same time, memory to be written for each.
  *
  * No pointer is kept.
@@ -21,6 +21,32 @@
 #ifdef __cplusplus
 extern "C" {
 #endif
+
+/* The number of this interface: one more wherever a function takes, answers or leaves something else than before. bd_version answers that of the
+ * archive. */
+#define BD_VERSION 1
+uint32_t bd_version(void);
+
+/* The limits of documents, tables and elements, which refusals 1, 2, 4 and 8 stand for; a root is at depth 1. Lengths are in bytes. */
+#define BD_DOCUMENT_LIMIT 1048576
+#define BD_TABLES_LIMIT 1048576
+#define BD_ELEMENTS_LIMIT 16384
+#define BD_DEPTH_LIMIT 32
+#define BD_ATTRIBUTES_LIMIT 16
+#define BD_NAME_LIMIT 64
+#define BD_VALUE_LIMIT 4096
+#define BD_ROWS_LIMIT 65535
+#define BD_ROW_LIMIT 4096
+
+/* What is lent: bytes of scratch, and how many numbers an element and a finding take. With room for BD_ELEMENTS_LIMIT elements, and for
+ * BD_PROCEDURES findings of each of them, no check is refused for want of room (3, 9, 11). */
+#define BD_SCRATCH 4096
+#define BD_ELEMENT_NUMBERS 4
+#define BD_FINDING_NUMBERS 3
+#define BD_PROCEDURES 38
+
+/* Bytes of stack that a call may use. */
+#define BD_STACK 4194304
 
 /* An answer. `refusal` is 0 where nothing is refused, and `value` is then how many findings there are. Otherwise `refusal` is the
  * number of the refusal, and `value` what it returns:

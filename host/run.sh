@@ -12,10 +12,7 @@
 # ${TMPDIR:-/tmp}/benchdowel-host; the files of differing cases are put into the folder `differ` there.
 set -eu
 
-fail() { echo "$*" >&2; exit 3; }
-has() { command -v "$1" >/dev/null; }
-folder() { CDPATH= cd -- "$1" && pwd; }
-
+. "$(dirname -- "$0")/../app/machine.sh"
 sources=$(folder "$(dirname -- "$0")/src")
 project=$(folder "$sources/../..")
 cases=${1:-1000000}
@@ -32,52 +29,23 @@ vectors=$(folder "${4:-$project/crates/program_vectors/data}") || fail "there is
 build=${TMPDIR:-/tmp}/benchdowel-host
 mkdir -p "$build"
 
-# The archive is x86-64 code. Another machine builds x86-64 programs around it and runs them under an emulator: then a
-# rustc with that target is needed, perhaps Debian's beside another one, and expat and libxml2 are x86-64 code too.
-rustc=rustc
-target=
-missing=
-need() { missing="$missing $*"; }
-if [ "$archive" = standin ] || [ "$(uname -m)" = x86_64 ]; then
-    has rustc || need rustc
-    has cc || need gcc libc6-dev
-    [ -e /usr/include/expat.h ] || need libexpat1-dev
-    [ -e /usr/include/libxml2/libxml/parser.h ] || need libxml2-dev
-else
-    target=x86_64-unknown-linux-gnu
-    libraries=/usr/lib/x86_64-linux-gnu
-    has_target() { [ -d "$("$rustc" --print target-libdir --target $target 2>/dev/null)" ]; }
-    has_target || rustc=/usr/bin/rustc
-    has_target || need rustc libstd-rust-dev:amd64
-    has x86_64-linux-gnu-gcc && [ -e /usr/x86_64-linux-gnu/lib/crt1.o ] || need gcc-x86-64-linux-gnu libc6-dev-amd64-cross
+if [ "$archive" = standin ]; then machine native; else machine; fi
+if [ -n "$target" ]; then
     [ -e $libraries/libexpat.so.1 ] || need libexpat1:amd64
     [ -e $libraries/libxml2.so.2 ] || need libxml2:amd64
-    has qemu-x86_64 || has qemu-x86_64-static || need qemu-user
+else
+    [ -e /usr/include/expat.h ] || need libexpat1-dev
+    [ -e /usr/include/libxml2/libxml/parser.h ] || need libxml2-dev
 fi
-if [ -n "$missing" ]; then
-    echo "installing:$missing"
-    {
-        { [ -z "$target" ] || dpkg --add-architecture amd64; } && apt-get update &&
-            # Debian 12 has its newer rustc under another name.
-            if apt-cache show rustc-web; then missing=$(echo "$missing" | sed 's/ rustc/&-web/; s/libstd-rust/&-web/'); fi &&
-            # $missing is a list of words.
-            DEBIAN_FRONTEND=noninteractive apt-get install -y --no-install-recommends $missing
-    } >"$build/apt.log" 2>&1 || fail "apt-get could not install them: see $build/apt.log"
-fi
-version=$($rustc --version)
-minor=$(echo "$version" | sed 's/^rustc 1\.\([0-9]*\)\..*/\1/')
-[ "$minor" -ge 82 ] || fail "rustc 1.82 or later is needed; this is $version"
+get "$build/apt.log"
 
 flags=
-emulator=
 if [ -n "$target" ]; then
-    has_target || fail "$version cannot build for $target"
     # The libraries are there to be run; the linker looks for them under names without a version.
     mkdir -p "$build/x86-64"
     ln -sf $libraries/libexpat.so.1 "$build/x86-64/libexpat.so"
     ln -sf $libraries/libxml2.so.2 "$build/x86-64/libxml2.so"
     flags="--target $target -C linker=x86_64-linux-gnu-gcc -L x86-64"
-    emulator=$(command -v qemu-x86_64 || command -v qemu-x86_64-static)
 fi
 
 standin=
