@@ -1,5 +1,6 @@
-// Runs `first_bad` on every string of one byte, on every code point, and on the forms at each boundary, and counts.
-ghost use Prim.Native.Nat.{_≤_};
+// Runs `first_bad` on every string of one byte, on every byte at each place of a hundred, on every code point, and on the forms at
+// each boundary, and counts.
+ghost use Prim.Native.Nat.{_<_, _≤_};
 
 // What the first bad byte of a string of the one byte b should be: 1, which is none, at tab, line feed, carriage return and 20 to 7F.
 fn wanted(b: u8) -> usize {
@@ -37,6 +38,28 @@ fn one_byte() -> u64 {
         let b = b as u8;
         let s = [b];
         right += at(&s, wanted(b));
+    }
+    right
+}
+
+// 1 where b, at a place of a hundred spaces, which are blocks and a rest, is found to be bad if it is, else 0.
+fn among_spaces(b: u8, place: usize) -> u64
+    requires { ⌜ place < 100 ⌝ }
+    ensures { λ r. ⌜ r ≤ 1 ⌝ }
+{
+    let mut s = [b' '; 100];
+    s[place] = b;
+    if wanted(b) == 0 {
+        return at(&s, place);
+    }
+    at(&s, 100)
+}
+
+// Every byte, at each of the hundred places.
+fn each_place() -> u64 {
+    let mut right = 0;
+    for n in 0..25600usize {
+        right += among_spaces((n / 100) as u8, n % 100);
     }
     right
 }
@@ -134,6 +157,7 @@ fn byte_order_mark() {
 
 fn main() {
     line(b"one-byte ", one_byte(), 256);
+    line(b"one byte among a hundred ", each_place(), 25600);
     line(b"code points that are good: ", code_points(), 1112032);
     firsts_and_lasts();
     no_characters();

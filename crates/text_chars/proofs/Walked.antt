@@ -5,18 +5,19 @@ use mathlib.Core.Bool.{Bool, true, false}
 use mathlib.Core.List.{List}
 use Prim.Native.Nat.{ℕ, zero, suc, _+_, _-_, _<_, _≤_, _^_}
 use native.Mathlib.Omega.{arith}
-use borrow.Author.Tests.{le-leb}
+use borrow.Author.Tests.{lt-leb, le-leb}
 use lib.Dec.{leb}
 use mir.Val.{Fits}
 use mir.Syntax.{w64}
 use lib.ListN.{length, getD}
 use Rattle.text_scan.specs.Choice.{_and_, between}
 use Rattle.text_scan.specs.Lists.{stands}
-use Rattle.text_scan.specs.Walk.{skip, from}
-use Rattle.text_scan.proofs.Tests.{pick-case, and-right, within}
+use Rattle.text_scan.specs.Walk.{skip}
+use Rattle.text_scan.proofs.Tests.{pick-case, and-left, and-right, within}
 use Rattle.text_scan.proofs.Within.{holds-there}
 use Rattle.text_scan.proofs.Walk as walks
 use Rattle.text_chars.specs.Utf8.{isXmlChar, Char, none, char, sound, tail, decode, charAt, widthOf, charStep, steps, mark, firstBad}
+use Rattle.text_chars.specs.Blocks.{plain, plains, badFrom, told}
 use Rattle.text_chars.proofs.Chars.{first}
 
 -- ---- a character that stands at a position ends within the list
@@ -55,42 +56,73 @@ fits s i h =
     d : ℕ
     d = getD s (i + 3) 0
 
--- ---- the walk
+-- ---- the walk, of which x is told
 abbrev pub At : List ℕ → ℕ → Type 0
-At s i = firstBad s ≡ from (steps s) (length s) (length s) i
+At s i = firstBad s ≡ badFrom s i
 
-module _ (s : List ℕ) (i : ℕ) where
+module _ (s : List ℕ) where
   pub marked : (t : Bool) → t ≡ stands mark s 0 → t ≡ true → 0 ≡ firstBad s
   unfolding firstBad
   marked t e f = rw (← e, f)
 
   pub starts : (t : Bool) → t ≡ stands mark s 0 → t ≡ false → At s 0
-  unfolding firstBad
+  unfolding firstBad badFrom
   starts t e f = rw (← e, f)
 
-  plain : (b : ℕ) → b ≡ getD s i 0 → 0x20 ≤ b → b < 0x80 → steps s i ≡ skip 0
-  unfolding charAt decode sound
-  plain b e h g = rw (← e, within 0 0x7F b (omega arith) (omega arith), le-leb 0 b (omega arith), ← first b h (omega arith))
+  alone : (i : ℕ) → plain (getD s i 0) ≡ true → steps s i ≡ skip 0
+  unfolding charAt decode sound plain
+  alone i e = rw (and-left (between 0 0x7F (getD s i 0)) _ e, le-leb 0 (getD s i 0) (omega arith), and-right (between 0 0x7F (getD s i 0)) _ e)
 
-  pub ascii : At s i → i < length s → 0x20 ≤ getD s i 0 → getD s i 0 < 0x80 → At s (i + 1)
-  ascii a h lo hi =
-      let e : i + 1 + 0 ≡ i + 1 = omega arith in
-      a ∙ (rw e at (walks.goes (steps s) (length s) (length s) i 0 (omega arith) (plain (getD s i 0) refl lo hi)))
+  over-plain : (i : ℕ) → i < length s → plain (getD s i 0) ≡ true → badFrom s i ≡ badFrom s (i + 1)
+  unfolding badFrom
+  over-plain i h e = walks.further (steps s) (length s) (length s) i h (alone i e)
 
-  pub goes : (w : ℕ) → At s i → i < length s → w ≡ widthOf (charAt s i) → (w ≡ 0 → ⊥) → At s (i + w)
-  goes zero a h e z = absurd (z refl)
-  goes (suc w) a h e z =
-      let f : i + 1 + w ≡ i + suc w = omega arith in
-      a ∙ (rw f at (walks.goes (steps s) (length s) (length s) i w (omega (arith, fits s i h)) (ap (charStep i) (sym e))))
+  over-plains : (i k : ℕ) → i + k ≤ length s → plains s i k ≡ true → badFrom s i ≡ badFrom s (i + k)
+  unfolding plains
+  over-plains i zero h e =
+      let f : i + 0 ≡ i = omega arith in
+      rw f refl
+  over-plains i (suc k) h e =
+      let f : i + k + 1 ≡ i + suc k = omega arith in
+      over-plains i k (omega arith) (and-left (plains s i k) _ e)
+      ∙ (rw f at (over-plain (i + k) (omega arith) (and-right (plains s i k) _ e)))
 
-  pub stops : (w : ℕ) → At s i → i < length s → w ≡ widthOf (charAt s i) → w ≡ 0 → i ≡ firstBad s
-  stops w a h e z = sym (a ∙ walks.stops (steps s) (length s) (length s) i i h (ap (charStep i) (sym e ∙ z)))
+module _ (s : List ℕ) (i x : ℕ) where
+  pub passes : (k : ℕ) (t : Bool) → t ≡ plains s i k → t ≡ true → x ≡ badFrom s i → i < length s → k ≤ length s - i → x ≡ badFrom s (i + k)
+  passes k t e f a h l = a ∙ over-plains s i k (omega arith) (sym e ∙ f)
 
-  pub ends : At s i → length s ≤ i → length s ≡ firstBad s
+  pub ends : x ≡ badFrom s i → length s ≤ i → length s ≡ x
+  unfolding badFrom
   ends a h = sym (a ∙ walks.ends (steps s) (length s) (length s) i h)
 
-  pub room : (w : ℕ) → i < length s → length s < 2 ^ 64 → w ≡ widthOf (charAt s i) → Fits w64 (i + w)
-  room w h l e = omega (arith, fits s i h)
+  -- ---- up to a position that is not behind the end
+  module _ (end : ℕ) where
+    pub ascii : x ≡ badFrom s i → i < end → end ≤ length s → 0x20 ≤ getD s i 0 → getD s i 0 < 0x80 → x ≡ badFrom s (i + 1)
+    unfolding plain
+    ascii a h l lo hi =
+        a ∙ over-plain s i (omega arith) (rw (within 0 0x7F (getD s i 0) (omega arith) (omega arith), ← first (getD s i 0) lo (omega arith)))
 
-  pub falls : (w : ℕ) → i < length s → w ≡ widthOf (charAt s i) → (w ≡ 0 → ⊥) → length s - (i + w) < length s - i
-  falls w h e z = omega (arith, fits s i h)
+    pub goes : (w : ℕ) → x ≡ badFrom s i → i < end → end ≤ length s → w ≡ widthOf (charAt s i) → (w ≡ 0 → ⊥) → x ≡ badFrom s (i + w)
+    unfolding badFrom
+    goes zero a h l e z = absurd (z refl)
+    goes (suc w) a h l e z =
+        let f : i + 1 + w ≡ i + suc w = omega arith in
+        a ∙ (rw f at (walks.goes (steps s) (length s) (length s) i w (omega (arith, fits s i (omega arith))) (ap (charStep i) (sym e))))
+
+    pub stops : (w : ℕ) → x ≡ badFrom s i → i < end → end ≤ length s → w ≡ widthOf (charAt s i) → w ≡ 0 → told s end i ≡ x
+    unfolding badFrom
+    stops w a h l e z =
+        rw (lt-leb end i h) (sym (a ∙ walks.stops (steps s) (length s) (length s) i i (omega arith) (ap (charStep i) (sym e ∙ z))))
+
+    pub comes : x ≡ badFrom s i → end ≤ i → told s end i ≡ x
+    comes a h = rw (le-leb end i h) (sym a)
+
+    pub room : (w : ℕ) → i < end → end ≤ length s → length s < 2 ^ 64 → w ≡ widthOf (charAt s i) → Fits w64 (i + w)
+    room w h l m e = omega (arith, fits s i (omega arith))
+
+    -- ---- where that walk came to r
+    pub bad : (r : ℕ) → x ≡ badFrom s i → told s end r ≡ badFrom s i → r < end → r ≡ x
+    bad r a e h = (rw (lt-leb end r h) at e) ∙ sym a
+
+    pub resumes : (r : ℕ) → x ≡ badFrom s i → told s end r ≡ badFrom s i → end ≤ r → x ≡ badFrom s r
+    resumes r a e h = a ∙ sym (rw (le-leb end r h) at e)

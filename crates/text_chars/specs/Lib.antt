@@ -1,3 +1,3 @@
 pub mod Utf8
-pub mod Unique
+pub mod Blocks
 pub mod Examples

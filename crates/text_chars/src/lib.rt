@@ -3,6 +3,7 @@ ghost use mathlib.Core.Path.{_≡_};
 ghost use Prim.Native.Nat.{_+_, _<_, _≤_};
 ghost use lib.ListN.{length, getD};
 ghost use Rattle.text_chars.specs.Utf8.{isXmlChar, sound, widthOf, charAt, firstBad};
+ghost use Rattle.text_chars.specs.Blocks.{plains, badFrom, told};
 
 pub fn is_char(c: u32) -> bool
     ensures { λ r. ⌜ r ≡ isXmlChar c ⌝ }
@@ -46,7 +47,7 @@ fn sound_width(w: usize, least: u32, c: u32) -> usize
 
 // The width of the character at i, whose first bytes a and b open a form of three or four bytes.
 fn long_width(s: &[u8], i: usize, a: u32, b: u32) -> usize
-    requires { ⌜ (i < length (now s)) × (a ≡ getD (now s) i 0) × (b ≡ getD (now s) (i + 1) 0) × (0xE0 ≤ a) × (a < 256) × (0x80 ≤ b) × (b ≤ 0xBF) ⌝ }
+    requires { ⌜ (i < length (now s)) × (a ≡ getD (now s) i 0) × (b ≡ getD (now s) (i + 1) 0) × (0xE0 ≤ a) × (0x80 ≤ b) × (b ≤ 0xBF) ⌝ }
     ensures { λ r. ⌜ r ≡ widthOf (charAt (now (s .entry)) i) ⌝ }
 {
     let c = text_scan::byte(s, i + 2);
@@ -81,7 +82,7 @@ fn width_at(s: &[u8], i: usize) -> usize
     requires { ⌜ i < length (now s) ⌝ }
     ensures { λ r. ⌜ r ≡ widthOf (charAt (now (s .entry)) i) ⌝ }
 {
-    let a = text_scan::byte(s, i);
+    let a = s[i] as u32;
     if a < 0x80 {
         return sound_width(1, 0, a);
     }
@@ -101,16 +102,29 @@ fn width_at(s: &[u8], i: usize) -> usize
     long_width(s, i, a, b)
 }
 
-// The first byte of the document that is bad: a byte order mark at the front, or the first byte that begins no character; or
-// the length, where none is bad.
-pub fn first_bad(s: &[u8]) -> usize
-    ensures { λ r. ⌜ r ≡ firstBad (now (s .entry)) ⌝ }
+// Whether each of the 32 bytes from i on is a character by itself. Nothing branches on a byte, so that the compiler compares 16 at a time.
+fn plain_block(s: &[u8], i: usize) -> bool
+    requires { ⌜ i + 32 ≤ length (now s) ⌝ }
+    ensures { λ r. ⌜ r ≡ plains (now (s .entry)) i 32 ⌝ }
 {
-    if text_scan::text_at(s, 0, b"\xEF\xBB\xBF") {
-        return 0;
+    let mut all = true;
+    let mut k = 0;
+    while k < 32 {
+        let b = s[i + k];
+        let plain = (0x20 <= b) & (b < 0x80) | (b == 9) | (b == 10) | (b == 13);
+        all = all & plain;
+        k += 1;
     }
-    let mut i = 0;
-    while i < s.len() {
+    all
+}
+
+// The first position from `at` on, character by character, that is not before `end`, or where no character stands.
+fn walk_to(s: &[u8], at: usize, end: usize) -> usize
+    requires { ⌜ end ≤ length (now s) ⌝ }
+    ensures { λ r. ⌜ told (now (s .entry)) end r ≡ badFrom (now (s .entry)) at ⌝ }
+{
+    let mut i = at;
+    while i < end {
         let b = s[i];
         if 0x20 <= b {
             if b < 0x80 {
@@ -123,6 +137,43 @@ pub fn first_bad(s: &[u8]) -> usize
             return i;
         }
         i += w;
+    }
+    i
+}
+
+// Where the stretch from i on ends: 64 bytes further, or at n if that comes first.
+fn stretch_end(i: usize, n: usize) -> usize
+    requires { ⌜ i < n ⌝ }
+    ensures { λ r. ⌜ (i < r) × (r ≤ n) ⌝ }
+{
+    if 64 < n - i {
+        return i + 64;
+    }
+    n
+}
+
+// The first byte of the document that is bad: a byte order mark at the front, or the first byte that begins no character; or
+// the length, where none is bad. A plain block is passed over whole; where a block is not plain, a stretch is walked before the next
+// is tried, so that a text of few plain blocks does not pay for them.
+pub fn first_bad(s: &[u8]) -> usize
+    ensures { λ r. ⌜ r ≡ firstBad (now (s .entry)) ⌝ }
+{
+    if text_scan::text_at(s, 0, b"\xEF\xBB\xBF") {
+        return 0;
+    }
+    let mut i = 0;
+    while i < s.len() {
+        if 32 <= s.len() - i {
+            if plain_block(s, i) {
+                i += 32;
+                continue;
+            }
+        }
+        let end = stretch_end(i, s.len());
+        i = walk_to(s, i, end);
+        if i < end {
+            return i;
+        }
     }
     s.len()
 }

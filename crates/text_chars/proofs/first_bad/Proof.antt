@@ -3,7 +3,7 @@
 use Prim.Native.Nat.{_-_}
 use lib.ListN.{length}
 use borrow.Author.Needs.{needs}
-use Rattle.text_chars.proofs.Walked.{At, marked, starts, ascii, goes, stops, ends, room, falls}
+use Rattle.text_chars.proofs.Walked.{At, marked, starts, passes, bad, resumes, ends}
 use Rattle.text_chars.proofs.first_bad.Statement.{statement}
 use Rattle.text_chars.proofs.first_bad.Tie as tie
 
@@ -25,8 +25,11 @@ returns c = search marked
 loop-holds : tie.Need-loop-holds Inv-loop μ-loop
 loop-holds c = search starts
 
-shared-slice-read-b : tie.Need-shared-slice-read-b Inv-loop μ-loop
-shared-slice-read-b c = search needs
+sub-if2 : tie.Need-sub-if2 Inv-loop μ-loop
+sub-if2 c = search needs
+
+plain-block-requires : tie.Need-plain-block-requires Inv-loop μ-loop
+plain-block-requires c κs = search needs
 
 add-i : tie.Need-add-i Inv-loop μ-loop
 add-i c = search needs
@@ -35,22 +38,23 @@ loop-less : tie.Need-loop-less Inv-loop μ-loop
 loop-less c = search needs
 
 loop-again : tie.Need-loop-again Inv-loop μ-loop
-loop-again c = search ascii
+loop-again c =
+    passes _ _ _ 32 _ (c .before .plain-block .ensures) (search needs) (search needs) (search needs) (search needs)
 
-width-at-requires : tie.Need-width-at-requires Inv-loop μ-loop
-width-at-requires c κs = search needs
+stretch-end-requires : tie.Need-stretch-end-requires Inv-loop μ-loop
+stretch-end-requires c κs = search needs
+
+walk-to-requires : tie.Need-walk-to-requires Inv-loop μ-loop
+walk-to-requires c κs = search needs
 
 returns-2 : tie.Need-returns-2 Inv-loop μ-loop
-returns-2 c = search stops
-
-add-i-2 : tie.Need-add-i-2 Inv-loop μ-loop
-add-i-2 c = search room
+returns-2 c = search bad
 
 loop-less-2 : tie.Need-loop-less-2 Inv-loop μ-loop
-loop-less-2 c = search falls
+loop-less-2 c = search needs
 
 loop-again-2 : tie.Need-loop-again-2 Inv-loop μ-loop
-loop-again-2 c = search goes
+loop-again-2 c = search resumes
 
 returns-3 : tie.Need-returns-3 Inv-loop μ-loop
 returns-3 c = search ends
@@ -65,13 +69,14 @@ first-bad-spec =
     text-at-requires
     returns
     loop-holds
-    shared-slice-read-b
+    sub-if2
+    plain-block-requires
     add-i
     loop-less
     loop-again
-    width-at-requires
+    stretch-end-requires
+    walk-to-requires
     returns-2
-    add-i-2
     loop-less-2
     loop-again-2
     returns-3)

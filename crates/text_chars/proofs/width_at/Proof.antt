@@ -1,12 +1,16 @@
 -- `text_chars::width_at` meets its contract: each return is a case of `decode`.
 -- Assumes nothing.
 use Rattle.text_chars.proofs.Decode.{tail-under, tail-over, tail-in, low, mid, no-b, two}
+use native.Mathlib.Omega.{arith}
 use borrow.Author.Needs.{needs}
 use Rattle.text_chars.proofs.width_at.Statement.{statement}
 use Rattle.text_chars.proofs.width_at.Tie as tie
 
-byte-requires : tie.Need-byte-requires
-byte-requires c κs = search needs
+shared-slice-read-a : tie.Need-shared-slice-read-a
+shared-slice-read-a c = search needs
+
+cast-a : tie.Need-cast-a
+cast-a c = omega (arith, c .shared-slice-known2 .given (c .before .before .args .i))
 
 sound-width-requires : tie.Need-sound-width-requires
 sound-width-requires c κs = search needs
@@ -20,8 +24,8 @@ returns-2 c = search mid
 add-byte : tie.Need-add-byte
 add-byte c = search needs
 
-byte-requires-2 : tie.Need-byte-requires-2
-byte-requires-2 c κs = search needs
+byte-requires : tie.Need-byte-requires
+byte-requires c κs = search needs
 
 returns-3 : tie.Need-returns-3
 returns-3 c = search (no-b, tail-under)
@@ -51,12 +55,13 @@ pub width-at-spec : {M : Type 1} → statement M
 width-at-spec =
     tie.close
     (tie.spec
-    byte-requires
+    shared-slice-read-a
+    cast-a
     sound-width-requires
     returns
     returns-2
     add-byte
-    byte-requires-2
+    byte-requires
     returns-3
     returns-4
     mul-sound-width
