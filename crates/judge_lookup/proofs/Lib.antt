@@ -1,3 +1,4 @@
 pub mod Laws
 pub mod Asking
 pub mod Parts
+pub mod Decided

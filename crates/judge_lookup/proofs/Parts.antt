@@ -11,7 +11,8 @@ use lib.ListN.{length, take, drop, length-append, length-drop, take-append-drop}
 use lib.Seq.{take-at, drop-at, take-append-le, drop-append-le, drop-append-add, length-take-le}
 use Rattle.table_index.specs.declared.Lookup.{Lookup}
 use Rattle.table_lines.specs.Lines.{Row}
-use Rattle.table_index.specs.Indexed.{Indexed, Serves}
+use Rattle.table_index.specs.Indexed.{IndexLeft, Serves}
+use Rattle.table_index.proofs.Runs.{left-indexed}
 use Rattle.judge_answers.specs.Served.{room, runOf}
 use Rattle.judge_lookup.specs.Serving.{Kept}
 
@@ -89,5 +90,5 @@ module _ (x : List ℕ) (i : ℕ) (k : i < 3) (h : 3 * room ≤ length x) where
               ∙ rw (← whole));
         }
 
-    pub part-served : (q : Lookup) (keeps : Row → Bool) (s : List ℕ) (at count : ℕ) → Indexed q keeps s at count ys → Serves q keeps s at count (runOf (replaced x i ys) i)
-    part-served q keeps s at count g = record { index = λ _. rw own g }
+    pub part-served : (q : Lookup) (keeps : Row → Bool) (s : List ℕ) (at count : ℕ) (zs : List ℕ) → IndexLeft q keeps s at count zs ys → Serves q keeps s at count (runOf (replaced x i ys) i)
+    part-served q keeps s at count zs g = record { index = λ _. rw own (left-indexed q keeps s at count zs ys g) }

@@ -3,3 +3,4 @@ pub mod Bytes
 pub mod Parts
 pub mod Skipping
 pub mod Comparing
+pub mod Decided

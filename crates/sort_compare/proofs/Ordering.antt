@@ -125,6 +125,24 @@ after-more l m n e f =
     (λ g. order-less n m (order-trans n l m (order-more l n f) g))
     (λ g. rw (← order-same l m g) f)
 
+-- what is after something, that is not after it
+pub in-order-turned : (l m : List ℕ) → inOrder (order l m) ≡ false → inOrder (order m l) ≡ true
+in-order-turned l m e = go (order l m) refl
+  where
+    go : (o : Order) → order l m ≡ o → inOrder (order m l) ≡ true
+    go Less f = never (ap inOrder (sym f) ∙ e)
+    go Same f = never (ap inOrder (sym f) ∙ e)
+    go More f = rw (order-more l m f)
+
+-- what is not after something is not after what that is not after, and two of which neither is after the other are equal
+pub in-order-trans : (l m n : List ℕ) → inOrder (order l m) ≡ true → inOrder (order m n) ≡ true → inOrder (order l n) ≡ true
+in-order-trans l m n e f =
+    in-order (order l m) e (λ g. rw (less-before l m n g f)) (λ g. rw (order-same l m g) f)
+
+pub in-order-both : (l m : List ℕ) → inOrder (order l m) ≡ true → inOrder (order m l) ≡ true → l ≡ m
+in-order-both l m e f =
+    in-order (order l m) e (λ g. never (sym f ∙ rw (order-less l m g))) (order-same l m)
+
 -- ---- a name that goes on with the byte x, or ends where x is 0
 abbrev pub begun : ℕ → List ℕ → List ℕ
 begun zero l = []

@@ -3,4 +3,3 @@ pub mod Fields
 pub mod Keys
 pub mod Units
 pub mod Examples
-pub mod Unique

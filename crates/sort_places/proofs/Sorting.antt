@@ -1,7 +1,7 @@
 -- The sort of a run of positions by its halves: each is sorted, and then they are merged; where the second only goes on, the run rises as it is.
 -- Assumes nothing.
 use mathlib.Core.Path.{_≡_, refl, sym, _∙_, ap}
-use mathlib.Core.Bool.{Bool, true, false}
+use mathlib.Core.Bool.{Bool, true}
 use mathlib.Core.List.{List, [], _∷_, _++_, append-nil}
 use Prim.Native.Nat.{ℕ, _+_, _-_, _*_, _/_, _<_, _≤_}
 use native.Mathlib.Numerals.{add-one}
@@ -10,12 +10,11 @@ use lib.ListN.{length, take, drop, getD, take-append-drop, length-append, length
 use lib.Seq.{length-take-le, take-suc, append-snoc, take-at, drop-at, take-all}
 use Rattle.text_scan.proofs.Tests.{and-left, and-right}
 use Rattle.text_scan.proofs.Within.{drop-here}
-use Rattle.sort_compare.specs.declared.Order.{Order}
-use Rattle.sort_compare.specs.declared.Order.the-variants.{Less, Same, More}
 use Rattle.sort_compare.specs.Order.{order, inOrder}
-use Rattle.sort_places.specs.Sorting.{count, Rearranged, leads, rising, Sorted}
+use Rattle.sort_places.specs.Sorting.{count, Rearranged, leads, rising, withPlace, Sorted}
 use Rattle.sort_places.proofs.Counting.{count-append}
 use Rattle.sort_places.proofs.Merging.{leads-same}
+use Rattle.sort_places.proofs.Placing.{keys-rise}
 
 -- ---- a part lent
 pub part-length : (l : List ℕ) (k : ℕ) → k < length l → k ≡ length (take k l)
@@ -26,24 +25,21 @@ part-fits l m k h g = omega (arith, part-length l k h)
 
 -- ---- what a sort says
 module _ (key : ℕ → List ℕ) (bs cs : List ℕ) (d : Sorted key bs cs) where
-  pub sorted-rises : rising key cs ≡ true
+  sorted-rises : rising (withPlace key) cs ≡ true
   unfolding Sorted
   sorted-rises = d .0
+
+  pub sorted-keys : rising key cs ≡ true
+  sorted-keys = keys-rise key cs sorted-rises
 
   pub sorted-same : Rearranged bs cs
   unfolding Sorted
   sorted-same = d .1
 
--- ---- whether the last of the first half is not after the first of the second
-module _ (l m : List ℕ) (r : Order) (e : r ≡ order l m) where
-  pub in-order-less : r ≡ Less → true ≡ inOrder (order l m)
-  in-order-less f = rw (← e, f)
-
-  pub in-order-same : r ≡ Same → true ≡ inOrder (order l m)
-  in-order-same f = rw (← e, f)
-
-  pub in-order-more : r ≡ More → false ≡ inOrder (order l m)
-  in-order-more f = rw (← e, f)
+-- the same positions, sorted
+pub sorted-from : (key : ℕ → List ℕ) (bs cs ds : List ℕ) → Rearranged bs cs → Sorted key cs ds → Sorted key bs ds
+unfolding Sorted
+sorted-from key bs cs ds e d = (d .0, λ p. e p ∙ d .1 p)
 
 -- ---- halves of which the second only goes on
 module _ (key : ℕ → List ℕ) where
@@ -55,24 +51,27 @@ module _ (key : ℕ → List ℕ) where
       let b : rising key (ms ++ x ∷ ys) ≡ true = rising-on ms ys x (and-right (leads key m (ms ++ x ∷ [])) (rising key (ms ++ x ∷ [])) e) f g in
       rw (a, b)
 
-  module _ (a : List ℕ) (h : ℕ) (z : 0 < h) (l : h < length a) where
-    last-of-half : take h a ≡ take (h - 1) a ++ getD a (h - 1) 0 ∷ []
-    last-of-half =
-        let q : h - 1 + 1 ≡ h = omega arith in
-        let t : take (h - 1 + 1) a ≡ take (h - 1) a ++ getD a (h - 1) 0 ∷ [] = rw (add-one (h - 1)) (take-suc a (h - 1) 0 (omega arith)) in
-        rw q at t
+module _ (key : ℕ → List ℕ) (a : List ℕ) (h : ℕ) (z : 0 < h) (l : h < length a) where
+  last-of-half : take h a ≡ take (h - 1) a ++ getD a (h - 1) 0 ∷ []
+  last-of-half =
+      let q : h - 1 + 1 ≡ h = omega arith in
+      let t : take (h - 1 + 1) a ≡ take (h - 1) a ++ getD a (h - 1) 0 ∷ [] = rw (add-one (h - 1)) (take-suc a (h - 1) 0 (omega arith)) in
+      rw q at t
 
-    seam : take (h - 1) a ++ getD a (h - 1) 0 ∷ drop h a ≡ a
-    seam =
-        sym (append-snoc (take (h - 1) a) (getD a (h - 1) 0) (drop h a)) ∙ ap (λ t. t ++ drop h a) (sym last-of-half) ∙ take-append-drop h a
+  seam : take (h - 1) a ++ getD a (h - 1) 0 ∷ drop h a ≡ a
+  seam =
+      sym (append-snoc (take (h - 1) a) (getD a (h - 1) 0) (drop h a)) ∙ ap (λ t. t ++ drop h a) (sym last-of-half) ∙ take-append-drop h a
 
-    pub goes-on-sorted : rising key (take h a) ≡ true → rising key (drop h a) ≡ true → (r : Bool) → r ≡ inOrder (order (key (getD a (h - 1) 0)) (key (getD a h 0))) → r ≡ true → Sorted key a a
-    unfolding Sorted
-    goes-on-sorted e f r er t =
-        let x : ℕ = getD a (h - 1) 0 in
-        let i : rising key (take (h - 1) a ++ x ∷ []) ≡ true = rw last-of-half at e in
-        let j : leads key x (drop h a) ≡ true = rw (drop-here a h l) (sym er ∙ t) in
-        (ap (rising key) (sym seam) ∙ rising-on (take (h - 1) a) (drop h a) x i j f, λ p. refl)
+  abbrev by : ℕ → List ℕ
+  by = withPlace key
+
+  pub goes-on-sorted : rising by (take h a) ≡ true → rising by (drop h a) ≡ true → (r : Bool) → r ≡ inOrder (order (by (getD a (h - 1) 0)) (by (getD a h 0))) → r ≡ true → Sorted key a a
+  unfolding Sorted
+  goes-on-sorted e f r er t =
+      let x : ℕ = getD a (h - 1) 0 in
+      let i : rising by (take (h - 1) a ++ x ∷ []) ≡ true = rw last-of-half at e in
+      let j : leads by x (drop h a) ≡ true = rw (drop-here a h l) (sym er ∙ t) in
+      (ap (rising by) (sym seam) ∙ rising-on by (take (h - 1) a) (drop h a) x i j f, λ p. refl)
 
 -- ---- the first half, copied to the room
 module _ (key : ℕ → List ℕ) (a room : List ℕ) (h : ℕ) (l : h < length a) (e : take (length (take h a)) room ≡ take h a) where
@@ -88,10 +87,10 @@ module _ (key : ℕ → List ℕ) (a room : List ℕ) (h : ℕ) (l : h < length 
   pub half-fits : length (take h room) ≤ length a
   half-fits = omega (arith, half-length)
 
-  pub half-rises : rising key (take h a) ≡ true → rising key (take h room) ≡ true
+  pub half-rises : rising (withPlace key) (take h a) ≡ true → rising (withPlace key) (take h room) ≡ true
   half-rises f = rw half f
 
-  pub other-rises : rising key (drop h a) ≡ true → rising key (drop (length (take h room)) a) ≡ true
+  pub other-rises : rising (withPlace key) (drop h a) ≡ true → rising (withPlace key) (drop (length (take h room)) a) ≡ true
   other-rises f = rw half-length f
 
   pub halves-sorted : (b : List ℕ) → Sorted key (take h room ++ drop (length (take h room)) a) b → Sorted key a b
@@ -132,17 +131,16 @@ module _ (key : ℕ → List ℕ) (a : List ℕ) (h : ℕ) (l : h ≤ length a) 
     pub joined-fits : length ys ≡ length (take (length (xs ++ drop h a) - h) (drop h (xs ++ drop h a))) → h < length a → h < length (take h (xs ++ drop h a) ++ (ys ++ drop (length (xs ++ drop h a) - h) (drop h (xs ++ drop h a))))
     joined-fits m n = rw joined (omega (arith, length-append xs ys, first-length, m ∙ ap length others, length-drop h a))
 
-    pub first-rises : rising key (take h (take h (xs ++ drop h a) ++ (ys ++ drop (length (xs ++ drop h a) - h) (drop h (xs ++ drop h a))))) ≡ true
+    pub first-rises : rising (withPlace key) (take h (take h (xs ++ drop h a) ++ (ys ++ drop (length (xs ++ drop h a) - h) (drop h (xs ++ drop h a))))) ≡ true
     first-rises = rw (joined, take-at xs ys h first-length) (sorted-rises key (take h a) xs d)
 
-    pub second-rises : rising key (drop h (take h (xs ++ drop h a) ++ (ys ++ drop (length (xs ++ drop h a) - h) (drop h (xs ++ drop h a))))) ≡ true
+    pub second-rises : rising (withPlace key) (drop h (take h (xs ++ drop h a) ++ (ys ++ drop (length (xs ++ drop h a) - h) (drop h (xs ++ drop h a))))) ≡ true
     second-rises = rw (joined, drop-at xs ys h first-length) (sorted-rises key (drop h a) ys second)
 
     pub whole-sorted : (b : List ℕ) → Sorted key (take h (xs ++ drop h a) ++ (ys ++ drop (length (xs ++ drop h a) - h) (drop h (xs ++ drop h a)))) b → Sorted key a b
-    unfolding Sorted
     whole-sorted b e =
-        let f : Sorted key (xs ++ ys) b = rw joined at e in
-        (sorted-rises key (xs ++ ys) b f, λ p. omega (arith, whole p, sorted-same key (take h a) xs d p, sorted-same key (drop h a) ys second p, count-append p xs ys, sorted-same key (xs ++ ys) b f p))
+        sorted-from key a (xs ++ ys) b
+        (λ p. omega (arith, whole p, sorted-same key (take h a) xs d p, sorted-same key (drop h a) ys second p, count-append p xs ys)) (rw joined at e)
 
 -- ---- how many positions each half has, and the room
 pub half-least : (n : ℕ) → n / 2 ≤ n

@@ -1,4 +1,4 @@
--- What a sort of positions leaves: the same positions, rising by their keys.
+-- What a sort of positions leaves: the same positions, rising by their keys and, where these are the same, by the positions themselves.
 -- Assumes nothing.
 use Prim.Native.Nat.{ℕ, _+_}
 use mathlib.Core.Path.{_≡_}
@@ -6,6 +6,7 @@ use mathlib.Core.Bool.{Bool, true}
 use mathlib.Core.List.{List, [], _∷_}
 use Rattle.text_scan.specs.Choice.{pick, _and_}
 use Rattle.sort_compare.specs.Order.{order, inOrder}
+use Rattle.sort_compare.specs.Fields.{coded}
 
 -- how many of the positions have the property
 unfoldable pub count : (ℕ → Bool) → List ℕ → ℕ
@@ -26,6 +27,10 @@ unfoldable pub rising : (ℕ → List ℕ) → List ℕ → Bool
 rising key [] = true
 rising key (b ∷ bs) = leads key b bs and rising key bs
 
--- cs is bs, sorted
+-- the key of a position, and behind it the position itself: no two have the same
+unfoldable pub withPlace : (ℕ → List ℕ) → ℕ → List ℕ
+withPlace key b = coded (key b ∷ (b ∷ []) ∷ [])
+
+-- cs is bs, sorted: there is one such run (law `one-sort`)
 unfoldable pub Sorted : (ℕ → List ℕ) → List ℕ → List ℕ → Type 0
-Sorted key bs cs = (rising key cs ≡ true) × Rearranged bs cs
+Sorted key bs cs = (rising (withPlace key) cs ≡ true) × Rearranged bs cs

@@ -1,12 +1,13 @@
-// Positions of a byte string, sorted by what starts there: by halves, with room for half of them, in time that grows with their bytes and little more.
+// Positions of a byte string, sorted by what starts there and, where that is the same, by themselves: by halves, with room for half of them, in time
+// that grows with their bytes and little more.
 ghost use mathlib.Core.Path.{_≡_};
 ghost use mathlib.Core.Bool.{true};
 ghost use mathlib.Core.List.{_++_};
-ghost use Prim.Native.Nat.{_-_, _*_, _<_, _≤_};
-ghost use lib.ListN.{length, take, drop, getD};
+ghost use Prim.Native.Nat.{_*_, _<_, _≤_};
+ghost use lib.ListN.{length, take, drop};
 ghost use Rattle.sort_compare.specs.Order.{order, inOrder};
 ghost use Rattle.sort_compare.specs.Keys.{keyAt};
-ghost use Rattle.sort_places.specs.Sorting.{rising, Sorted};
+ghost use Rattle.sort_places.specs.Sorting.{withPlace, rising, Sorted};
 use sort_compare::By;
 use sort_compare::Order;
 
@@ -22,9 +23,20 @@ fn copy(from: &[u32], to: &mut [u32])
     }
 }
 
-// Merges the positions of `left` with those of `a` behind as many places, into `a`; of two that are the same, that of `left` goes first.
+// Whether the position x is not after y.
+fn is_in_order(by: By, s: &[u8], x: u32, y: u32) -> bool
+    ensures { λ r. ⌜ r ≡ inOrder (order (withPlace (keyAt by (now (s .entry))) x) (withPlace (keyAt by (now (s .entry))) y)) ⌝ }
+{
+    match sort_compare::compare(by, s, x, y) {
+        Order::Less => true,
+        Order::Same => x <= y,
+        Order::More => false,
+    }
+}
+
+// Merges the positions of `left` with those of `a` behind as many places, into `a`.
 fn merge(by: By, s: &[u8], left: &[u32], a: &mut [u32])
-    requires { ⌜ (length (now left) ≤ length (now a)) × (rising (keyAt by (now s)) (now left) ≡ true) × (rising (keyAt by (now s)) (drop (length (now left)) (now a)) ≡ true) ⌝ }
+    requires { ⌜ (length (now left) ≤ length (now a)) × (rising (withPlace (keyAt by (now s))) (now left) ≡ true) × (rising (withPlace (keyAt by (now s))) (drop (length (now left)) (now a)) ≡ true) ⌝ }
     ensures { λ _. ⌜ Sorted (keyAt by (now (s .entry))) (now (left .entry) ++ drop (length (now (left .entry))) (now (a .entry))) (now (a .exit)) ⌝ }
 {
     let mut i = 0;
@@ -39,48 +51,25 @@ fn merge(by: By, s: &[u8], left: &[u32], a: &mut [u32])
             continue;
         }
         let y = a[j];
-        match sort_compare::compare(by, s, x, y) {
-            Order::Less => {
-                a[k] = x;
-                i += 1;
-                k += 1;
-                continue;
-            }
-            Order::Same => {
-                a[k] = x;
-                i += 1;
-                k += 1;
-                continue;
-            }
-            Order::More => {
-                a[k] = y;
-                j += 1;
-                k += 1;
-                continue;
-            }
+        if is_in_order(by, s, x, y) {
+            a[k] = x;
+            i += 1;
+            k += 1;
+            continue;
         }
-    }
-}
-
-// Whether the position before place h is not after that at h.
-fn is_in_order(by: By, s: &[u8], a: &[u32], h: usize) -> bool
-    requires { ⌜ (0 < h) × (h < length (now a)) ⌝ }
-    ensures { λ r. ⌜ r ≡ inOrder (order (keyAt by (now (s .entry)) (getD (now (a .entry)) (h - 1) 0)) (keyAt by (now (s .entry)) (getD (now (a .entry)) h 0))) ⌝ }
-{
-    match sort_compare::compare(by, s, a[h - 1], a[h]) {
-        Order::Less => true,
-        Order::Same => true,
-        Order::More => false,
+        a[k] = y;
+        j += 1;
+        k += 1;
     }
 }
 
 // Merges the first h positions of `a`, which rise, with the others, which rise too. Where the others only go on, nothing is moved: rows that come in
 // order are sorted with one comparison each.
 fn merge_halves(by: By, s: &[u8], a: &mut [u32], h: usize, room: &mut [u32])
-    requires { ⌜ (0 < h) × (h < length (now a)) × (h ≤ length (now room)) × (rising (keyAt by (now s)) (take h (now a)) ≡ true) × (rising (keyAt by (now s)) (drop h (now a)) ≡ true) ⌝ }
+    requires { ⌜ (0 < h) × (h < length (now a)) × (h ≤ length (now room)) × (rising (withPlace (keyAt by (now s))) (take h (now a)) ≡ true) × (rising (withPlace (keyAt by (now s))) (drop h (now a)) ≡ true) ⌝ }
     ensures { λ _. ⌜ Sorted (keyAt by (now (s .entry))) (now (a .entry)) (now (a .exit)) ⌝ }
 {
-    if is_in_order(by, s, a, h) {
+    if is_in_order(by, s, a[h - 1], a[h]) {
         return;
     }
     copy(&a[..h], room);

@@ -2,3 +2,4 @@ pub mod Lookups
 pub mod RowKeys
 pub mod Collecting
 pub mod Runs
+pub mod Decided

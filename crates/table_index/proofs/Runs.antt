@@ -1,21 +1,25 @@
--- The run of an index. Sorting keeps which keys its places have; first their number is written in front of them, then the part that they fill is sorted.
+-- The run that is filled: the number of the places is written in front of them, then the part that they fill is sorted. There is one such run, and it is an
+-- index: sorting keeps which keys the places have.
 -- Assumes nothing.
-use mathlib.Core.Path.{_≡_, sym, _∙_, ap}
-use mathlib.Core.Bool.{Bool, true}
+use mathlib.Core.Path.{_≡_, refl, sym, _∙_, ap}
+use mathlib.Core.Bool.{Bool}
 use mathlib.Core.List.{List, [], _∷_, _++_, append-nil}
 use Prim.Native.Nat.{ℕ, _+_, _-_, _<_, _≤_}
 use native.Mathlib.Omega.{arith}
 use lib.Dec.{ltb}
-use lib.ListN.{length, take, drop, getD, set, length-append, length-drop, drop-of-length-le}
-use lib.Seq.{length-take-le, take-at}
+use lib.ListN.{length, take, drop, set, length-append, length-drop, drop-of-length-le}
+use lib.Seq.{length-take-le, take-at, drop-at, take-all, drop-drop}
 use Rattle.text_scan.specs.Lists.{some}
-use Rattle.table_lines.specs.Lines.{Row, rowsAt}
+use Rattle.table_lines.specs.Lines.{Row}
 use Rattle.sort_compare.specs.declared.By.{By}
 use Rattle.sort_compare.specs.Keys.{keyAt}
-use Rattle.sort_places.specs.Sorting.{Rearranged, rising, Sorted}
+use Rattle.sort_places.specs.Sorting.{Rearranged, Sorted}
 use Rattle.sort_places.proofs.Counting.{some-count}
+use Rattle.sort_places.proofs.Placing.{one-sort}
+use Rattle.sort_places.proofs.Sorting.{sorted-keys, sorted-same}
 use Rattle.table_index.specs.declared.Lookup.{Lookup}
-use Rattle.table_index.specs.Indexed.{byOf, keepsRow, isKeyOf, Collected, Indexed, Serves, Room}
+use Rattle.table_index.specs.Indexed.{byOf, keepsRow, isKeyOf, placesAt, Collected, Indexed, IndexLeft, Serves, Room}
+use Rattle.table_index.proofs.Collecting.{collected}
 
 -- ---- one has a property where those that have it are not none, in whatever order they stand
 some-rearranged : (p : ℕ → Bool) (bs cs : List ℕ) → Rearranged bs cs → some p bs ≡ some p cs
@@ -23,8 +27,8 @@ some-rearranged p bs cs f = some-count p bs ∙ ap (ltb 0) (f p) ∙ sym (some-c
 
 -- so places stay those of the rows that are kept when they are sorted
 collected-sorted : (q : Lookup) (keeps : Row → Bool) (s : List ℕ) (at count : ℕ) (bs cs : List ℕ) → Collected q keeps s at count bs → Sorted (keyAt (byOf q) s) bs cs → Collected q keeps s at count cs
-unfolding Sorted
-collected-sorted q keeps s at count bs cs l d = record { same = λ k. l .same k ∙ some-rearranged (isKeyOf q s k) bs cs (d .1) }
+collected-sorted q keeps s at count bs cs l d =
+    record { same = λ k. l .same k ∙ some-rearranged (isKeyOf q s k) bs cs (sorted-same (keyAt (byOf q) s) bs cs d) }
 
 pub arranged-by : (q : Lookup) (s : List ℕ) (by : By) → by ≡ byOf q → (bs cs : List ℕ) → Sorted (keyAt by s) bs cs → Sorted (keyAt (byOf q) s) bs cs
 arranged-by q s by e bs cs d = rw (← e) d
@@ -65,17 +69,33 @@ module _ (s : List ℕ) (count : ℕ) (x : List ℕ) (m : Room s count x) (ys : 
     pub run-length : length (arranged (counted x ys n) zs n) ≡ length x
     run-length = rw ends (omega (arith, length-append zs (drop n ys), length-drop n ys, places, behind, m .long))
 
-    pub filled : (q : Lookup) (keeps : Row → Bool) (at : ℕ) → Collected q keeps s at count (take n ys) → Sorted (keyAt (byOf q) s) (take (1 + n - 1) (drop 1 (counted x ys n))) zs → Indexed q keeps s at count (arranged (counted x ys n) zs n)
-    unfolding Sorted
-    filled q keeps at l d =
-        let f : Sorted (keyAt (byOf q) s) (take n ys) zs = rw (here, one-less n) at d in
-        let g : take n (zs ++ drop n ys) ≡ zs = take-at zs (drop n ys) n places in
-        rw ends
-        (record {
-          fits = omega (arith, length-append zs (drop n ys), places);
-          rises = rw g (f .0);
-          rows = rw g (collected-sorted q keeps s at count (take n ys) zs l f);
-        })
+    pub filled : (q : Lookup) (keeps : Row → Bool) (at : ℕ) → n ≡ length (placesAt q keeps s at count) → ys ≡ placesAt q keeps s at count ++ drop n (take (length x - 1) (drop 1 x)) → Sorted (keyAt (byOf q) s) (take (1 + n - 1) (drop 1 (counted x ys n))) zs → IndexLeft q keeps s at count x (arranged (counted x ys n) zs n)
+    filled q keeps at e f d =
+        let t : take n ys ≡ placesAt q keeps s at count = rw f (take-at (placesAt q keeps s at count) _ n (sym e)) in
+        let u : drop n ys ≡ drop (1 + n) x = rw f (drop-at (placesAt q keeps s at count) _ n (sym e)) ∙ ap (drop n) (take-all (length x - 1) (drop 1 x) (omega (arith, length-drop 1 x))) ∙ drop-drop n 1 x in
+        record {
+          places = zs;
+          sorted = rw (here, one-less n, t) at d;
+          left = ends ∙ rw (u, places);
+        }
+
+-- ---- what is filled
+module _ (q : Lookup) (keeps : Row → Bool) (s : List ℕ) (at count : ℕ) (x y : List ℕ) (d : IndexLeft q keeps s at count x y) where
+  pub left-indexed : Indexed q keeps s at count y
+  left-indexed =
+      let zs : List ℕ = d .places in
+      let g : take (length zs) (zs ++ drop (1 + length zs) x) ≡ zs = take-at zs (drop (1 + length zs) x) (length zs) refl in
+      rw (d .left)
+      (record {
+        fits = omega (arith, length-append zs (drop (1 + length zs) x));
+        rises = rw g (sorted-keys (keyAt (byOf q) s) (placesAt q keeps s at count) zs (d .sorted));
+        rows = rw g (collected-sorted q keeps s at count (placesAt q keeps s at count) zs (collected q keeps s at count) (d .sorted));
+      })
+
+  pub one-fill : (z : List ℕ) → IndexLeft q keeps s at count x z → y ≡ z
+  one-fill z e =
+      d .left
+      ∙ rw (one-sort (keyAt (byOf q) s) (placesAt q keeps s at count) (d .places) (e .places) (d .sorted) (e .sorted)) (sym (e .left))
 
 -- only the index of a history is for the values that it was filled with
 module _ (s : List ℕ) (at count : ℕ) (x a c b d : List ℕ) where

@@ -1,23 +1,24 @@
 -- What it means that the rows of a section are indexed: their places stand in a run in order, and a key is had by some row exactly where some place
--- in the run has it. No definition of document 01: it is what `fill` promises and `some_row` of table_search asks for, and changes no answer.
+-- in the run has it; and which run `fill` leaves, which is such an index. No definition of document 01: `some_row` of table_search asks for an index, and
+-- it changes no answer.
 -- Assumes nothing.
-use Prim.Native.Nat.{ℕ, _<_, _≤_, _^_}
+use Prim.Native.Nat.{ℕ, zero, suc, _+_, _<_, _≤_, _^_}
 use mathlib.Core.Bool.{Bool, true}
-use mathlib.Core.List.{List, [], _∷_}
+use mathlib.Core.List.{List, [], _∷_, _++_}
 use mathlib.Core.Path.{_≡_}
-use lib.Dec.{eqb}
+use lib.Dec.{eqb, ltb}
 use lib.ListN.{length, take, drop, getD}
-use Rattle.text_scan.specs.Choice.{_and_, not}
+use Rattle.text_scan.specs.Choice.{pick, _and_, not}
 use Rattle.text_scan.specs.Lists.{pairs, some}
 use Rattle.text_facts.specs.Strings.{equal}
 use Rattle.xml_reader.specs.Limits.{rowsLimit}
-use Rattle.table_lines.specs.Lines.{Row, field, rowsAt}
+use Rattle.table_lines.specs.Lines.{Row, field, fieldsOf, lineAt, lineEnd, rowsAt}
 use Rattle.table_rows.specs.declared.Question.{Question}
 use Rattle.table_rows.specs.Rows.{someRow}
 use Rattle.sort_compare.specs.declared.By.{By}
 use Rattle.sort_compare.specs.Fields.{shown, skipPlace, coded}
 use Rattle.sort_compare.specs.Keys.{keyAt}
-use Rattle.sort_places.specs.Sorting.{rising}
+use Rattle.sort_places.specs.Sorting.{rising, Sorted}
 use Rattle.table_index.specs.declared.Lookup.{Lookup}
 
 -- ---- the questions whose rows are indexed, and what these are ordered by
@@ -64,7 +65,12 @@ keyPlace Lookup.Code s i = i
 keyPlace Lookup.Name s i = i
 keyPlace Lookup.KeyElsewhere s i = skipPlace s (skipPlace s (skipPlace s (skipPlace s i)))
 
--- the places are those of the rows that are kept
+-- the places of the rows that are kept, of n rows from i on, as the file has them
+unfoldable pub placesAt : Lookup → (Row → Bool) → List ℕ → ℕ → ℕ → List ℕ
+placesAt q keeps s i zero = []
+placesAt q keeps s i (suc n) = pick (ltb i (length s)) (pick (keeps (fieldsOf (lineAt s i))) (keyPlace q s i ∷ []) [] ++ placesAt q keeps s (lineEnd s i + 1) n) []
+
+-- the places have the keys of the rows that are kept, and no others
 pub record Collected (q : Lookup) (keeps : Row → Bool) (s : List ℕ) (at count : ℕ) (places : List ℕ) : Type 0 where
   pub same : (k : List ℕ) → someRow (hasKey q keeps k) (rowsAt s at count) ≡ some (isKeyOf q s k) places
 
@@ -77,6 +83,12 @@ pub record Indexed (q : Lookup) (keeps : Row → Bool) (s : List ℕ) (at count 
   pub fits : getD x 0 0 < length x
   pub rises : rising (keyAt (byOf q) s) (placesIn x) ≡ true
   pub rows : Collected q keeps s at count (placesIn x)
+
+-- y is what `fill` leaves of the run x: how many places there are, the places sorted, and behind them what stood there (one run: law `one-fill`)
+pub record IndexLeft (q : Lookup) (keeps : Row → Bool) (s : List ℕ) (at count : ℕ) (x y : List ℕ) : Type 0 where
+  pub places : List ℕ
+  pub sorted : Sorted (keyAt (byOf q) s) (placesAt q keeps s at count) places
+  pub left : y ≡ length places ∷ places ++ drop (1 + length places) x
 
 -- a run with numbers in it is an index of the section; an empty one is not asked
 pub record Serves (q : Lookup) (keeps : Row → Bool) (s : List ℕ) (at count : ℕ) (x : List ℕ) : Type 0 where

@@ -1,13 +1,14 @@
 // The rows of a section in order, in a lent run of numbers: first the number of its rows, then for each the place where what it is ordered by
 // starts. `table_search` finds by halves whether some row is what is asked for.
 ghost use mathlib.Core.Path.{_≡_};
+ghost use mathlib.Core.List.{_++_};
 ghost use Prim.Native.Nat.{_<_, _≤_, _^_};
 ghost use Rattle.xml_reader.specs.Limits.{rowsLimit};
-ghost use lib.ListN.{length, take};
+ghost use lib.ListN.{length, drop};
 ghost use Rattle.table_lines.specs.Lines.{fieldsOf};
 ghost use Rattle.sort_compare.specs.Keys.{keyAt};
 ghost use Rattle.sort_places.specs.Sorting.{Sorted};
-ghost use Rattle.table_index.specs.Indexed.{byOf, keepsRow, keyPlace, Collected, Indexed, Room};
+ghost use Rattle.table_index.specs.Indexed.{byOf, keepsRow, keyPlace, placesAt, IndexLeft, Room};
 use sort_compare::By;
 use sort_compare::skip;
 
@@ -72,7 +73,7 @@ fn collect(
     run: &mut [u32],
 ) -> usize
     requires { ⌜ (count ≤ length (now run)) × (length (now s) < 2 ^ 32) ⌝ }
-    ensures { λ r. ⌜ (r ≤ count) × Collected q (keepsRow q (now (a .entry)) (now (c .entry))) (now (s .entry)) at count (take r (now (run .exit))) ⌝ }
+    ensures { λ r. ⌜ (r ≤ count) × (r ≡ length (placesAt q (keepsRow q (now (a .entry)) (now (c .entry))) (now (s .entry)) at count)) × (now (run .exit) ≡ placesAt q (keepsRow q (now (a .entry)) (now (c .entry))) (now (s .entry)) at count ++ drop r (now (run .entry))) ⌝ }
 {
     let mut n = 0;
     let mut i = at;
@@ -107,7 +108,7 @@ fn arrange(q: Lookup, s: &[u8], run: &mut [u32])
 // left in the run is for `some_row` of table_search alone.
 pub fn fill(q: Lookup, s: &[u8], at: usize, count: usize, a: &[u8], c: &[u8], index: &mut [u32])
     requires { ⌜ Room (now s) count (now index) ⌝ }
-    ensures { λ _. ⌜ Indexed q (keepsRow q (now (a .entry)) (now (c .entry))) (now (s .entry)) at count (now (index .exit)) ⌝ }
+    ensures { λ _. ⌜ IndexLeft q (keepsRow q (now (a .entry)) (now (c .entry))) (now (s .entry)) at count (now (index .entry)) (now (index .exit)) ⌝ }
 {
     let n = collect(q, s, at, count, a, c, &mut index[1..]);
     index[0] = n as u32;

@@ -2,3 +2,4 @@ pub mod Keys
 pub mod Asking
 pub mod Searching
 pub mod Runs
+pub mod Decided

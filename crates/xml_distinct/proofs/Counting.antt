@@ -15,8 +15,9 @@ use Rattle.text_scan.proofs.Tests.{never, or-true}
 use Rattle.text_facts.specs.Strings.{equal}
 use Rattle.text_facts.proofs.StringLaws.{equal-same, equal-is}
 use Rattle.xml_names.specs.Names.{nameAt}
-use Rattle.sort_places.specs.Sorting.{count, Rearranged}
+use Rattle.sort_places.specs.Sorting.{count, Rearranged, Sorted}
 use Rattle.sort_places.proofs.Counting.{count-append, some-count}
+use Rattle.sort_places.proofs.Sorting.{sorted-same}
 use Rattle.xml_distinct.specs.Repeats.{isCalled, twice}
 
 -- ---- equal lists, element by element
@@ -69,8 +70,12 @@ module _ (s : List ℕ) where
     pub front-twice : (t : Bool) → t ≡ twice s (take k bs) → t ≡ true → true ≡ twice s bs
     front-twice t e f = sym (twice-kept (take k bs) bs (λ p. omega (arith, parted p)) (sym e ∙ f))
 
-    pub rest-twice : (cs : List ℕ) → Rearranged (take k bs) cs → (r : Bool) → r ≡ twice s (cs ++ drop k bs) → r ≡ twice s bs
-    rest-twice cs h r e = e ∙ sym (same-twice bs (cs ++ drop k bs) (λ p. omega (arith, parted p, h p, count-append p cs (drop k bs))))
+    module _ (key : ℕ → List ℕ) (cs : List ℕ) (d : Sorted key (take k bs) cs) where
+      pub front-rearranged : Rearranged bs (cs ++ drop k bs)
+      front-rearranged p = omega (arith, parted p, sorted-same key (take k bs) cs d p, count-append p cs (drop k bs))
+
+      pub rest-twice : (r : Bool) → r ≡ twice s (cs ++ drop k bs) → r ≡ twice s bs
+      rest-twice r e = e ∙ sym (same-twice bs (cs ++ drop k bs) front-rearranged)
 
 pub front-room : (bs room : List ℕ) (k : ℕ) → k < length bs → length bs ≤ 2 * length room → length (take k bs) ≤ 2 * length room
 front-room bs room k h g = omega (arith, length-take-le k bs (omega arith))

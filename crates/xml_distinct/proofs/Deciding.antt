@@ -15,7 +15,7 @@ use Rattle.xml_names.specs.Names.{nameAt}
 use Rattle.sort_compare.specs.Keys.{keyAt}
 use Rattle.sort_compare.proofs.Ordering.{same-less, in-order, order-refl, order-same, less-before}
 use Rattle.sort_places.specs.Sorting.{leads, rising, Sorted}
-use Rattle.sort_places.proofs.Sorting.{sorted-rises, sorted-same}
+use Rattle.sort_places.proofs.Sorting.{sorted-keys, sorted-same}
 use Rattle.xml_distinct.specs.Repeats.{isCalled, twice}
 use Rattle.xml_distinct.specs.Neighbours.{neighboursFrom, neighbours}
 use Rattle.xml_distinct.proofs.Counting.{same-pairs, pairs-same, same-twice}
@@ -61,4 +61,4 @@ module _ (s : List ℕ) where
 
   pub sorted-decides : (bs cs : List ℕ) → Sorted (keyAt By.Name s) bs cs → (r : Bool) → r ≡ neighbours s cs → r ≡ twice s bs
   sorted-decides bs cs d r e =
-      e ∙ sym (rising-neighbours cs (sorted-rises (keyAt By.Name s) bs cs d)) ∙ sym (same-twice s bs cs (sorted-same (keyAt By.Name s) bs cs d))
+      e ∙ sym (rising-neighbours cs (sorted-keys (keyAt By.Name s) bs cs d)) ∙ sym (same-twice s bs cs (sorted-same (keyAt By.Name s) bs cs d))

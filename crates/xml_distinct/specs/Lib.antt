@@ -1,4 +1,3 @@
 pub mod Repeats
 pub mod Examples
-pub mod Unique
 pub mod Neighbours

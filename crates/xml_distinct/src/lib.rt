@@ -2,8 +2,9 @@
 ghost use mathlib.Core.Path.{_≡_};
 ghost use Prim.Native.Nat.{_*_, _≤_};
 ghost use lib.ListN.{length};
-ghost use Rattle.sort_places.specs.Sorting.{Rearranged};
-ghost use Rattle.xml_distinct.specs.Repeats.{twice};
+ghost use Rattle.sort_compare.specs.Keys.{keyAt};
+ghost use Rattle.sort_places.specs.Sorting.{Sorted};
+ghost use Rattle.xml_distinct.specs.Repeats.{twice, PlacesLeft};
 ghost use Rattle.xml_distinct.specs.Neighbours.{neighbours};
 use sort_compare::By;
 use sort_compare::Order;
@@ -32,17 +33,17 @@ fn has_same_neighbours(s: &[u8], a: &[u32]) -> bool
 // Whether two of the positions have the same name; the positions are sorted.
 fn repeats_sorted(s: &[u8], starts: &mut [u32], room: &mut [u32]) -> bool
     requires { ⌜ length (now starts) ≤ 2 * length (now room) ⌝ }
-    ensures { λ r. ⌜ (r ≡ twice (now (s .entry)) (now (starts .entry))) × Rearranged (now (starts .entry)) (now (starts .exit)) ⌝ }
+    ensures { λ r. ⌜ (r ≡ twice (now (s .entry)) (now (starts .entry))) × Sorted (keyAt By.Name (now (s .entry))) (now (starts .entry)) (now (starts .exit)) ⌝ }
 {
     sort_places::sort(By::Name, s, starts, room);
     has_same_neighbours(s, starts)
 }
 
-// Whether two of the positions have the same name. The positions end in no particular order, and so does the room. The first 256 are asked first: where
-// names are few, two of these are the same.
+// Whether two of the positions have the same name. What is left in the room is open. The first 256 are asked first: where names are few, two of these
+// are the same.
 pub fn repeats(s: &[u8], starts: &mut [u32], room: &mut [u32]) -> bool
     requires { ⌜ length (now starts) ≤ 2 * length (now room) ⌝ }
-    ensures { λ r. ⌜ r ≡ twice (now (s .entry)) (now (starts .entry)) ⌝ }
+    ensures { λ r. ⌜ (r ≡ twice (now (s .entry)) (now (starts .entry))) × PlacesLeft (now (s .entry)) (now (starts .entry)) (now (starts .exit)) ⌝ }
 {
     if starts.len() <= 256 {
         return repeats_sorted(s, starts, room);

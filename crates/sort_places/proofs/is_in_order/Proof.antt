@@ -1,24 +1,9 @@
 -- `sort_places::is_in_order` meets its contract.
 -- Assumes nothing.
-use Rattle.sort_places.proofs.Sorting.{in-order-less, in-order-same, in-order-more}
+use Rattle.sort_places.proofs.Placing.{in-order-less, in-order-same, in-order-more}
 use borrow.Author.Needs.{needs}
 use Rattle.sort_places.proofs.is_in_order.Statement.{statement}
 use Rattle.sort_places.proofs.is_in_order.Tie as tie
-
-sub-compare : tie.Need-sub-compare
-sub-compare c = search needs
-
-mul-compare : tie.Need-mul-compare
-mul-compare c = search needs
-
-shared-slice-read-compare : tie.Need-shared-slice-read-compare
-shared-slice-read-compare c = search needs
-
-mul-compare-2 : tie.Need-mul-compare-2
-mul-compare-2 c = search needs
-
-shared-slice-read-compare-2 : tie.Need-shared-slice-read-compare-2
-shared-slice-read-compare-2 c = search needs
 
 compare-requires : tie.Need-compare-requires
 compare-requires c κs = search needs
@@ -44,16 +29,4 @@ returns-3 c = search in-order-more
 pub is-in-order-spec : {M : Type 1} → statement M
 is-in-order-spec =
     tie.close
-    (tie.spec
-    sub-compare
-    mul-compare
-    shared-slice-read-compare
-    mul-compare-2
-    shared-slice-read-compare-2
-    compare-requires
-    enum-told
-    enum-told-2
-    enum-told-3
-    returns
-    returns-2
-    returns-3)
+    (tie.spec compare-requires enum-told enum-told-2 enum-told-3 returns returns-2 returns-3)

@@ -6,13 +6,14 @@ use mathlib.Core.List.{_++_}
 use native.Mathlib.Omega.{arith}
 use lib.ListN.{length, drop}
 use Rattle.sort_compare.specs.Keys.{keyAt}
-use Rattle.sort_places.proofs.Merging.{Merging, merge-starts, merge-last, merge-less, merge-more, merge-same, merge-ends, length-kept}
+use Rattle.sort_places.specs.Sorting.{withPlace}
+use Rattle.sort_places.proofs.Merging.{Merging, merge-starts, merge-last, merge-left, merge-right, merge-ends, length-kept}
 use borrow.Author.Needs.{needs}
 use Rattle.sort_places.proofs.merge.Statement.{statement}
 use Rattle.sort_places.proofs.merge.Tie as tie
 
 abbrev Inv-loop : tie.InvT-loop
-Inv-loop by s left a₀ i₀ j₀ k₀ a i j k = (i ≤ length left) × (j ≤ length a₀) × (k + length left ≡ i + j) × (length a ≡ length a₀) × Merging (keyAt by s) left (left ++ drop (length left) a₀) i j k a
+Inv-loop by s left a₀ i₀ j₀ k₀ a i j k = (i ≤ length left) × (j ≤ length a₀) × (k + length left ≡ i + j) × (length a ≡ length a₀) × Merging (withPlace (keyAt by s)) left (left ++ drop (length left) a₀) i j k a
 
 abbrev μ-loop : tie.MeasureT-loop
 μ-loop by s left a₀ i₀ j₀ k₀ a i j k = length left - i + (length a₀ - j)
@@ -50,11 +51,8 @@ mul-y c = search needs
 slice-read-y : tie.Need-slice-read-y Inv-loop μ-loop
 slice-read-y c = search needs
 
-compare-requires : tie.Need-compare-requires Inv-loop μ-loop
-compare-requires c κs = search needs
-
-enum-told : tie.Need-enum-told Inv-loop μ-loop
-enum-told c = search needs
+is-in-order-requires : tie.Need-is-in-order-requires Inv-loop μ-loop
+is-in-order-requires c κs = search needs
 
 mul-a-2 : tie.Need-mul-a-2 Inv-loop μ-loop
 mul-a-2 c = search needs
@@ -72,10 +70,7 @@ loop-less-2 : tie.Need-loop-less-2 Inv-loop μ-loop
 loop-less-2 c = search needs
 
 loop-again-2 : tie.Need-loop-again-2 Inv-loop μ-loop
-loop-again-2 c = (omega arith, omega arith, omega arith, search length-kept, search (merge-less _ _ _ _ _ _ _ (c .before .before .before .before .before .before .before .loop .inv .4)))
-
-enum-told-2 : tie.Need-enum-told-2 Inv-loop μ-loop
-enum-told-2 c = search needs
+loop-again-2 c = (omega arith, omega arith, omega arith, search length-kept, search (merge-left _ _ _ _ _ _ _ (c .before .before .before .before .before .before .loop .inv .4)))
 
 mul-a-3 : tie.Need-mul-a-3 Inv-loop μ-loop
 mul-a-3 c = search needs
@@ -83,8 +78,8 @@ mul-a-3 c = search needs
 slice-write-a-3 : tie.Need-slice-write-a-3 Inv-loop μ-loop
 slice-write-a-3 c = search needs
 
-add-i-3 : tie.Need-add-i-3 Inv-loop μ-loop
-add-i-3 c = search needs
+add-j : tie.Need-add-j Inv-loop μ-loop
+add-j c = search needs
 
 add-k-3 : tie.Need-add-k-3 Inv-loop μ-loop
 add-k-3 c = search needs
@@ -93,28 +88,7 @@ loop-less-3 : tie.Need-loop-less-3 Inv-loop μ-loop
 loop-less-3 c = search needs
 
 loop-again-3 : tie.Need-loop-again-3 Inv-loop μ-loop
-loop-again-3 c = (omega arith, omega arith, omega arith, search length-kept, search (merge-same _ _ _ _ _ _ _ (c .before .before .before .before .before .before .before .loop .inv .4)))
-
-enum-told-3 : tie.Need-enum-told-3 Inv-loop μ-loop
-enum-told-3 c = search needs
-
-mul-a-4 : tie.Need-mul-a-4 Inv-loop μ-loop
-mul-a-4 c = search needs
-
-slice-write-a-4 : tie.Need-slice-write-a-4 Inv-loop μ-loop
-slice-write-a-4 c = search needs
-
-add-j : tie.Need-add-j Inv-loop μ-loop
-add-j c = search needs
-
-add-k-4 : tie.Need-add-k-4 Inv-loop μ-loop
-add-k-4 c = search needs
-
-loop-less-4 : tie.Need-loop-less-4 Inv-loop μ-loop
-loop-less-4 c = search needs
-
-loop-again-4 : tie.Need-loop-again-4 Inv-loop μ-loop
-loop-again-4 c = (omega arith, omega arith, omega arith, search length-kept, search (merge-more _ _ _ _ _ _ _ (c .before .before .before .before .before .before .before .loop .inv .4)))
+loop-again-3 c = (omega arith, omega arith, omega arith, search length-kept, search (merge-right _ _ _ _ _ _ _ (c .before .before .before .before .before .before .loop .inv .4)))
 
 same-length : tie.Need-same-length Inv-loop μ-loop
 same-length c = search needs
@@ -139,27 +113,18 @@ merge-spec =
     loop-again
     mul-y
     slice-read-y
-    compare-requires
-    enum-told
+    is-in-order-requires
     mul-a-2
     slice-write-a-2
     add-i-2
     add-k-2
     loop-less-2
     loop-again-2
-    enum-told-2
     mul-a-3
     slice-write-a-3
-    add-i-3
+    add-j
     add-k-3
     loop-less-3
     loop-again-3
-    enum-told-3
-    mul-a-4
-    slice-write-a-4
-    add-j
-    add-k-4
-    loop-less-4
-    loop-again-4
     same-length
     returns)

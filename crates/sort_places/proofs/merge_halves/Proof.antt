@@ -5,11 +5,23 @@ use borrow.Author.Needs.{needs}
 use Rattle.sort_places.proofs.merge_halves.Statement.{statement}
 use Rattle.sort_places.proofs.merge_halves.Tie as tie
 
+sub-is-in-order : tie.Need-sub-is-in-order
+sub-is-in-order c = search needs
+
+mul-is-in-order : tie.Need-mul-is-in-order
+mul-is-in-order c = search needs
+
+slice-read-is-in-order : tie.Need-slice-read-is-in-order
+slice-read-is-in-order c = search needs
+
+mul-is-in-order-2 : tie.Need-mul-is-in-order-2
+mul-is-in-order-2 c = search needs
+
+slice-read-is-in-order-2 : tie.Need-slice-read-is-in-order-2
+slice-read-is-in-order-2 c = search needs
+
 is-in-order-requires : tie.Need-is-in-order-requires
 is-in-order-requires c κs = search needs
-
-same-length : tie.Need-same-length
-same-length c = search needs
 
 returns : tie.Need-returns
 returns c = search goes-on-sorted
@@ -32,11 +44,11 @@ slice-aggregate-merge c = search half-whole
 merge-requires : tie.Need-merge-requires
 merge-requires c κs = search (half-fits, half-rises, other-rises)
 
+same-length : tie.Need-same-length
+same-length c = search needs
+
 same-length-2 : tie.Need-same-length-2
 same-length-2 c = search needs
-
-same-length-3 : tie.Need-same-length-3
-same-length-3 c = search needs
 
 returns-2 : tie.Need-returns-2
 returns-2 c = search halves-sorted
@@ -45,8 +57,12 @@ pub merge-halves-spec : {M : Type 1} → statement M
 merge-halves-spec =
     tie.close
     (tie.spec
+    sub-is-in-order
+    mul-is-in-order
+    slice-read-is-in-order
+    mul-is-in-order-2
+    slice-read-is-in-order-2
     is-in-order-requires
-    same-length
     returns
     slice-reshare-prefix-copy
     slice-aggregate-copy
@@ -54,6 +70,6 @@ merge-halves-spec =
     slice-reshare-prefix-merge
     slice-aggregate-merge
     merge-requires
+    same-length
     same-length-2
-    same-length-3
     returns-2)

@@ -14,7 +14,7 @@ use Rattle.table_index.proofs.collect.Statement.{statement}
 use Rattle.table_index.proofs.collect.Tie as tie
 
 abbrev Inv-loop : tie.InvT-loop
-Inv-loop q s at count a c run₀ n₀ i₀ left₀ run n i left = (n + left ≤ count) × (length run ≡ length run₀) × Collecting q (keepsRow q a c) s at count run n i left
+Inv-loop q s at count a c run₀ n₀ i₀ left₀ run n i left = (n + left ≤ count) × (length run ≡ length run₀) × Collecting q (keepsRow q a c) s at count run₀ run n i left
 
 abbrev μ-loop : tie.MeasureT-loop
 μ-loop q s at count a c run₀ n₀ i₀ left₀ run n i left = left
@@ -26,7 +26,7 @@ same-length : tie.Need-same-length Inv-loop μ-loop
 same-length c = search needs
 
 returns : tie.Need-returns Inv-loop μ-loop
-returns c = (omega arith, search collect-past)
+returns c = search (collect-past _ _ _ _ _ _ _ _ _ _ (c .before .before .loop .inv .2))
 
 line-end-requires : tie.Need-line-end-requires Inv-loop μ-loop
 line-end-requires c κs = search needs
@@ -68,7 +68,7 @@ loop-less : tie.Need-loop-less Inv-loop μ-loop
 loop-less c = search needs
 
 loop-again : tie.Need-loop-again Inv-loop μ-loop
-loop-again c = (omega arith, search length-kept, search (collect-puts _ _ _ _ _ _ _ _ _ (c .before .before .before .before .before .before .before .loop .inv .2)))
+loop-again c = (omega arith, search length-kept, search (collect-puts _ _ _ _ _ _ _ _ _ _ (c .before .before .before .before .before .before .before .loop .inv .2)))
 
 add-i-2 : tie.Need-add-i-2 Inv-loop μ-loop
 add-i-2 c = search line-fits
@@ -83,7 +83,7 @@ same-length-2 : tie.Need-same-length-2 Inv-loop μ-loop
 same-length-2 c = search needs
 
 returns-2 : tie.Need-returns-2 Inv-loop μ-loop
-returns-2 c = (omega arith, search collect-over)
+returns-2 c = search (collect-over _ _ _ _ _ _ _ _ _ _ (c .before .loop .inv .2))
 
 pub collect-spec : {M : Type 1} → statement M
 collect-spec =

@@ -1,7 +1,6 @@
 -- `xml_distinct::repeats_sorted` meets its contract.
 -- Assumes nothing.
 use Rattle.xml_distinct.proofs.Deciding.{sorted-decides}
-use Rattle.sort_places.proofs.Sorting.{sorted-same}
 use borrow.Author.Needs.{needs}
 use Rattle.xml_distinct.proofs.repeats_sorted.Statement.{statement}
 use Rattle.xml_distinct.proofs.repeats_sorted.Tie as tie
@@ -19,7 +18,7 @@ same-length-2 : tie.Need-same-length-2
 same-length-2 c = search needs
 
 returns : tie.Need-returns
-returns c = (search sorted-decides, sorted-same _ _ _ (c .before .before .before .before .before .before .sort .ensures))
+returns c = (search sorted-decides, c .before .before .before .before .before .before .sort .ensures)
 
 pub repeats-sorted-spec : {M : Type 1} → statement M
 repeats-sorted-spec =
