@@ -61,7 +61,7 @@ end-deep : (s : List ℕ) (i j count depth : ℕ) (k : Kind) → pieceAt s i (do
 end-deep s i j count depth k e q =
     part-deep count depth (end-inside s i j (documentPart count depth) (e ∙ ap (λ (y : Kind). Piece y j) q) .0)
 
-turn-order : (s : List ℕ) (r t : Reading) → Kept (length s) r → turn s r ≡ on t → InOrder t
+pub turn-order : (s : List ℕ) (r t : Reading) → Kept (length s) r → turn s r ≡ on t → InOrder t
 unfolding turn
 turn-order s r t w e = go (ltb (r .at) (length s)) refl (pieceAt s (r .at) (documentPart (r .count) (r .depth))) refl e
   where

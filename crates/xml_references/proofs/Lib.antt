@@ -5,3 +5,4 @@ pub mod Ends
 pub mod Bounds
 pub mod Replaced
 pub mod Writes
+pub mod Decided

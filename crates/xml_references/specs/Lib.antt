@@ -2,4 +2,3 @@ pub mod References
 pub mod Runs
 pub mod Decoded
 pub mod Examples
-pub mod Unique

@@ -67,7 +67,7 @@ module _ (s : List ℕ) (at : ℕ) where
   unfolding tagPieceAt
   piece-within i t h g e = subst (PieceWithin at (length s)) e (in-chain-within i (partAt s i) (part-within i h))
 
-  ending-within : (n : ℕ) → at ≤ n → TagWithin at (length s) (ending (attributes s n))
+  pub ending-within : (n : ℕ) → at ≤ n → TagWithin at (length s) (ending (attributes s n))
   unfolding attributes
   ending-within n h = chain-keeps (tagPieceAt s) (Refused 7) (TagWithin at (length s)) at (length s) piece-within tt n h
 

@@ -2,4 +2,3 @@ pub mod Tags
 pub mod Reading
 pub mod EndTags
 pub mod Examples
-pub mod Unique

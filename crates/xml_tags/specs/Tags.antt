@@ -44,3 +44,13 @@ tagTo s at n =
 
 abbrev pub tagAt : List ℕ → ℕ → Tag
 tagAt s at = tagTo s at (elementEnd s (at + 1))
+
+-- ---- for whoever asks only for a tag without fault
+abbrev pub faultless : Tag → Tag
+faultless (Start j) = Start j
+faultless (Empty j) = Empty j
+faultless (Refused k) = Refused 7
+
+-- the tag at position `at` where it has no fault; any other is refused with 7
+abbrev pub openingAt : List ℕ → ℕ → Tag
+openingAt s at = faultless (tagAt s at)

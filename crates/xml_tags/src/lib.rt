@@ -7,10 +7,10 @@ ghost use lib.ListN.{length, drop, take, getD, set};
 ghost use lib.Seq.{sets};
 ghost use Rattle.text_scan.specs.Choice.{pick, _or_};
 ghost use Rattle.xml_names.specs.Names.{nameAt};
-ghost use Rattle.xml_reader.specs.Limits.{nameLimit, valueLimit};
+ghost use Rattle.xml_reader.specs.Limits.{nameLimit, valueLimit, attributesLimit};
 ghost use Rattle.xml_attributes.specs.Chains.{items};
 ghost use Rattle.xml_attributes.specs.Parts.{attributes, someNamed, repeated};
-ghost use Rattle.xml_tags.specs.Tags.{tagAt, isRefused};
+ghost use Rattle.xml_tags.specs.Tags.{tagAt, isRefused, faultless, openingAt};
 ghost use Rattle.xml_tags.specs.Reading.{bodyOf};
 ghost use Rattle.xml_tags.specs.EndTags.{endTagEnd};
 use text_scan::Found;
@@ -192,4 +192,57 @@ pub fn tag_at(s: &[u8], at: usize) -> Tag
         return Tag::Refused(8);
     }
     ending
+}
+
+// Whether a tag whose name ends at `at` has more attributes than the limit allows. No more is read than the first one past it.
+fn is_crowded(s: &[u8], at: usize) -> bool
+    ensures { λ r. ⌜ r ≡ ltb attributesLimit (length (items (attributes (now (s .entry)) at))) ⌝ }
+{
+    let mut i = at;
+    let mut count = 0;
+    while i < s.len() {
+        let TagPart::Read {
+            at: _,
+            name_end: _,
+            value: _,
+            value_end: e,
+        } = xml_attributes::part_at(s, i)
+        else {
+            return false;
+        };
+        if count == Reader::ATTRIBUTES {
+            return true;
+        }
+        count += 1;
+        i = e + 1;
+    }
+    false
+}
+
+fn without_fault(t: Tag) -> Tag
+    ensures { λ r. ⌜ r ≡ faultless t ⌝ }
+{
+    match t {
+        Tag::Start(after) => Tag::Start(after),
+        Tag::Empty(after) => Tag::Empty(after),
+        Tag::Refused(_) => Tag::Refused(7),
+    }
+}
+
+// The start tag or empty-element tag that begins at `at`, where it has no fault. Too many attributes are a fault whatever stands behind them, so that
+// the time is that of reading the tag, for any bytes.
+pub fn opening_at(s: &[u8], at: usize) -> Tag
+    ensures { λ r. ⌜ r ≡ openingAt (now (s .entry)) at ⌝ }
+{
+    if text_scan::byte(s, at) != 60 {
+        return Tag::Refused(7);
+    }
+    let n = xml_names::element_end(s, at + 1);
+    if n <= at + 1 {
+        return Tag::Refused(7);
+    }
+    if is_crowded(s, n) {
+        return Tag::Refused(7);
+    }
+    without_fault(tag_at(s, at))
 }

@@ -467,8 +467,8 @@ module _ (s : List ℕ) (first : ℕ) (scratch : List ℕ) (view : View) (after 
   pub text-in-range : InRange s after view
   text-in-range = in-range s (textOf s first) scratch room (textPlace s first) (text-says s first) view after x
 
-  pub text-seen : (r : List ℕ) → r ≡ seen s after view → r ≡ textOf s first
-  text-seen r e = e ∙ seen-is s (textOf s first) scratch room (textPlace s first) (text-says s first) view after x
+  pub text-seen : seen s after view ≡ textOf s first
+  text-seen = seen-is s (textOf s first) scratch room (textPlace s first) (text-says s first) view after x
 
 module _ (s : List ℕ) (first : ℕ) (p : Place) (ep : p ≡ plainOf s (textPlace s first)) (a e : ℕ) (z : p ≡ At a e) where
   stands : AsItStands s (textOf s first) (At a e)

@@ -1,3 +1,3 @@
 pub mod Examples
 pub mod Texts
-pub mod Unique
+pub mod Child

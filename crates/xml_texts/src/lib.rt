@@ -8,7 +8,8 @@ ghost use Rattle.xml_reader.specs.Limits.{valueLimit};
 ghost use Rattle.xml_attributes.specs.Chains.{ending};
 ghost use Rattle.xml_values.specs.Attributes.{tagFrom};
 ghost use Rattle.xml_texts.specs.Texts.{contentOf, contentAt, contentFrom, contentTo, textPlace, saidFrom, textOf};
-ghost use Rattle.xml_values.specs.Views.{plainOf, Shows};
+ghost use Rattle.xml_texts.specs.Child.{isChild};
+ghost use Rattle.xml_values.specs.Views.{viewOf, plainOf, Shows, ShowsAt};
 use text_scan::Found;
 use xml_attributes::Tag;
 use xml_attributes::TagPart;
@@ -20,7 +21,7 @@ use xml_values::View;
 
 // What a piece is to the content in which it stands: character data up to a place, a part that is dropped up to a place, the end tag, or what
 // leaves no text.
-enum Content {
+pub enum Content {
     Said(usize),
     Dropped(usize),
     Ended,
@@ -66,10 +67,29 @@ fn content_of(got: Scanned) -> Content
     }
 }
 
-// The piece of a content that begins at i.
+// Whether a start or an empty-element tag begins at i, as can be seen by its first two bytes.
+fn is_child(s: &[u8], i: usize) -> bool
+    ensures { λ r. ⌜ r ≡ isChild (now (s .entry)) i ⌝ }
+{
+    if text_scan::byte(s, i) != 60 {
+        return false;
+    }
+    if text_scan::text_at(s, i, b"<!") {
+        return false;
+    }
+    if text_scan::text_at(s, i, b"<?") {
+        return false;
+    }
+    !text_scan::text_at(s, i, b"</")
+}
+
+// The piece of a content that begins at i. The tag of a child element is not read: with or without a fault, it leaves no text.
 fn content_at(s: &[u8], i: usize) -> Content
     ensures { λ r. ⌜ r ≡ contentAt (now (s .entry)) i ⌝ }
 {
+    if is_child(s, i) {
+        return Content::Other;
+    }
     content_of(xml_pieces::piece(s, i, xml_pieces::DocumentPart::Inside))
 }
 
@@ -171,10 +191,10 @@ pub fn text_value(s: &[u8], first: usize, out: &mut [u8]) -> View
     View::Scratch(say(s, a, e, out))
 }
 
-// The text of the element that begins at `first`.
+// The text of the element that begins at `first`: that part of s, or the front of `out`.
 pub fn text<'d: 's, 's>(s: &'d [u8], first: usize, out: &'s mut [u8]) -> &'s [u8]
     requires { ⌜ valueLimit ≤ length (now out) ⌝ }
-    ensures { λ r. ⌜ now r ≡ textOf (now (s .entry)) first ⌝ }
+    ensures { λ r. ⌜ ShowsAt (s .entry) (out .entry) (viewOf (now (s .entry)) (textPlace (now (s .entry)) first) (textOf (now (s .entry)) first)) (textOf (now (s .entry)) first) r ⌝ }
 {
     let view = text_value(s, first, out);
     let t = &out[..];

@@ -22,7 +22,7 @@ use Rattle.xml_names.specs.Names.{nameEnd, nameIs}
 use Rattle.xml_names.proofs.Names.{name-least, name-most}
 use Rattle.xml_attributes.specs.declared.Tag.{Tag}
 use Rattle.xml_attributes.specs.declared.Tag.the-variants.{Start, Empty, Refused}
-use Rattle.xml_tags.specs.Tags.{tagAt}
+use Rattle.xml_tags.specs.Tags.{tagAt, faultless, openingAt}
 use Rattle.xml_tags.specs.EndTags.{endTagEnd}
 use Rattle.xml_tags.proofs.Bounds.{TagWithin, tag-within}
 use Rattle.xml_pieces.proofs.Within.{end-tag-behind}
@@ -35,16 +35,36 @@ use Rattle.xml_texts.specs.Texts.{textPlace, textOf, textAt}
 use Rattle.xml_values.specs.Views.{viewOf, scratchAfter, seen, InRange, Shows}
 use Rattle.xml_values.proofs.Views.{Says, shows-nothing, in-range, seen-is, attribute-says}
 use Rattle.xml_texts.proofs.Texts.{text-says}
-use Rattle.xml_value_reader.specs.Shown.{isSound, isTag, opens, endsWith, closes, isElement, placeIn, bytesIn, moved, ValueOutcome, showing, showingNothing, isReadable, shownOf, valueOf, Fills}
+use Rattle.xml_value_reader.specs.Shown.{isSound, isTag, isSoundTag, opens, endsWith, closes, isElement, placeIn, bytesIn, moved, ValueOutcome, showing, showingNothing, isReadable, shownOf, valueOf, Fills}
 use Rattle.xml_value_reader.specs.Moved.{Moves}
 
 -- ---- the first piece
 pub sound-part : (r : List ℕ) (n k : ℕ) → n ≤ length r → k ≡ firstBad (take n r) → eqb k n ≡ isSound (take n r)
 sound-part r n k h e = rw (← e, length-take-le n r h)
 
-module _ (r : List ℕ) (x : Tag) (ex : x ≡ tagAt r 0) where
+-- a tag with a fault opens nothing, whatever the fault
+still-within : (m : ℕ) (t : Tag) → TagWithin 0 m t → TagWithin 0 m (faultless t)
+still-within m (Start j) w = w
+still-within m (Empty j) w = w
+still-within m (Refused n) w = tt
+
+still-sound : (r : List ℕ) (t : Tag) → isSoundTag r (faultless t) ≡ isSoundTag r t
+still-sound r (Start j) = refl
+still-sound r (Empty j) = refl
+still-sound r (Refused n) = refl
+
+still-tag : (t : Tag) → isTag (faultless t) ≡ isTag t
+still-tag (Start j) = refl
+still-tag (Empty j) = refl
+still-tag (Refused n) = refl
+
+module _ (r : List ℕ) (x : Tag) (ex : x ≡ openingAt r 0) where
   told : TagWithin 0 (length r) x
-  told = rw ex (tag-within r 0)
+  told = rw ex (still-within (length r) (tagAt r 0) (tag-within r 0))
+
+  by-opening : isSoundTag r x ≡ opens r
+  unfolding opens
+  by-opening = ap (isSoundTag r) ex ∙ still-sound r (tagAt r 0)
 
   pub start-inside : (j : ℕ) → x ≡ Start j → j ≤ length r
   start-inside j z = (rw z at told) .1
@@ -53,16 +73,13 @@ module _ (r : List ℕ) (x : Tag) (ex : x ≡ tagAt r 0) where
   empty-inside j z = (rw z at told) .1
 
   pub opens-start : (j : ℕ) → x ≡ Start j → (b : Bool) → b ≡ isSound (take j r) → b ≡ opens r
-  unfolding opens
-  opens-start j z b e = rw (← ex, z) e
+  opens-start j z b e = e ∙ sym (ap (isSoundTag r) z) ∙ by-opening
 
   pub opens-empty : (j : ℕ) → x ≡ Empty j → (b : Bool) → b ≡ isSound (take j r) → b ≡ opens r
-  unfolding opens
-  opens-empty j z b e = rw (← ex, z) e
+  opens-empty j z b e = e ∙ sym (ap (isSoundTag r) z) ∙ by-opening
 
   pub opens-nothing : (n : ℕ) → x ≡ Refused n → false ≡ opens r
-  unfolding opens
-  opens-nothing n z = rw (← ex, z)
+  opens-nothing n z = sym (ap (isSoundTag r) z) ∙ by-opening
 
 -- ---- the last piece
 module _ (r : List ℕ) (e : ℕ) (x : Found) (ex : x ≡ endTagEnd r e) where
@@ -95,10 +112,13 @@ module _ (r : List ℕ) (k : ℕ) (ek : k ≡ firstBad r) where
   unfolding isElement
   not-sound h = rw (← ek, ne-eqb k (length r) h)
 
-  module _ (h : k ≡ length r) (x : Tag) (ex : x ≡ tagAt r 0) (t : Bool) (et : t ≡ isTag x) where
+  module _ (h : k ≡ length r) (x : Tag) (ex : x ≡ openingAt r 0) (t : Bool) (et : t ≡ isTag x) where
+    tag-told : isTag (tagAt r 0) ≡ t
+    tag-told = sym (et ∙ ap isTag ex ∙ still-tag (tagAt r 0))
+
     by-tag : isElement r ≡ t and closes r (textPlace r 0)
     unfolding isElement
-    by-tag = rw (← ek, eq-eqb k (length r) h, ← ex, ← et)
+    by-tag = rw (← ek, eq-eqb k (length r) h, tag-told)
 
     pub not-opened : t ≡ false → false ≡ isElement r
     not-opened f = sym (by-tag ∙ rw f)
@@ -160,7 +180,7 @@ in-says r (c ∷ name) =
     pick-case (λ p. Says r p (valueAt r p)) (opens r) (attributePlace r 0 (c ∷ name)) Nothing (λ _. attribute-says r 0 (c ∷ name)) (λ _. refl)
 
 -- ---- a part of a part of the document
-drop-take : (a n : ℕ) (xs : List ℕ) → drop a (take n xs) ≡ take (n - a) (drop a xs)
+pub drop-take : (a n : ℕ) (xs : List ℕ) → drop a (take n xs) ≡ take (n - a) (drop a xs)
 drop-take zero n xs = let e : n - 0 ≡ n = omega arith in rw e
 drop-take (suc a) zero xs = let e : 0 - suc a ≡ 0 = omega arith in rw e
 drop-take (suc a) (suc n) [] = sym (take-nil (suc n - suc a))
@@ -284,5 +304,5 @@ module _ (document scratch : List ℕ) (first after : ℕ) (name : List ℕ) whe
     pub value-in-range : InRange document scratch′ v
     value-in-range = rw (x .leaves, x .answers) (right .0)
 
-    pub value-seen : (b : List ℕ) → b ≡ seen document scratch′ v → b ≡ valueOf document scratch first after name
-    value-seen b e = e ∙ rw (x .leaves, x .answers) (right .1)
+    pub value-seen : seen document scratch′ v ≡ valueOf document scratch first after name
+    value-seen = rw (x .leaves, x .answers) (right .1)

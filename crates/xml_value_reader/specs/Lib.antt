@@ -1,4 +1,3 @@
 pub mod Shown
 pub mod Examples
-pub mod Unique
 pub mod Moved

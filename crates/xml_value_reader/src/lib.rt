@@ -5,7 +5,7 @@ ghost use lib.ListN.{length, take};
 ghost use Rattle.text_scan.specs.declared.Found.{Found};
 ghost use Rattle.xml_reader.specs.Limits.{scratchLimit};
 ghost use Rattle.xml_tags.specs.EndTags.{endTagEnd};
-ghost use Rattle.xml_values.specs.Views.{Shows};
+ghost use Rattle.xml_values.specs.Views.{Shows, ShowsAt};
 ghost use Rattle.xml_value_reader.specs.Shown.{isSound, isTag as tagIs, opens, endsWith, isElement, placeIn, bytesIn, moved as movedBy, shownOf, valueOf, Fills};
 ghost use Rattle.xml_value_reader.specs.Moved.{Moves};
 use text_scan::Found;
@@ -26,7 +26,7 @@ fn is_sound(r: &[u8], n: usize) -> bool
 fn is_opened(r: &[u8]) -> bool
     ensures { λ b. ⌜ b ≡ opens (now (r .entry)) ⌝ }
 {
-    match xml_tags::tag_at(r, 0) {
+    match xml_tags::opening_at(r, 0) {
         Tag::Start(after) => is_sound(r, after),
         Tag::Empty(after) => is_sound(r, after),
         Tag::Refused(_) => false,
@@ -64,7 +64,7 @@ fn is_element(r: &[u8]) -> bool
     if text_chars::first_bad(r) != r.len() {
         return false;
     }
-    if is_tag(xml_tags::tag_at(r, 0)) {
+    if is_tag(xml_tags::opening_at(r, 0)) {
         let Place::At(_, e) = xml_texts::text_place(r, 0) else {
             return false;
         };
@@ -118,7 +118,8 @@ pub fn fill(document: &[u8], scratch: &mut [u8], first: usize, after: usize, nam
     moved(first, fill_range(&document[first..after], scratch, name))
 }
 
-// The value reader: what the attribute `name`, or the text where the name is empty, of the element from `first` to `after` says.
+// The value reader: what the attribute `name`, or the text where the name is empty, of the element from `first` to `after` says, as that part of the
+// document or as the front of the scratch area.
 pub fn value<'d: 's, 's>(
     document: &'d [u8],
     scratch: &'s mut [u8],
@@ -126,7 +127,7 @@ pub fn value<'d: 's, 's>(
     after: usize,
     name: &[u8],
 ) -> &'s [u8]
-    ensures { λ r. ⌜ now r ≡ valueOf (now (document .entry)) (now (scratch .entry)) first after (now (name .entry)) ⌝ }
+    ensures { λ r. ⌜ ShowsAt (document .entry) (scratch .entry) (shownOf (now (document .entry)) (now (scratch .entry)) first after (now (name .entry)) .view) (valueOf (now (document .entry)) (now (scratch .entry)) first after (now (name .entry))) r ⌝ }
 {
     let view = fill(document, scratch, first, after, name);
     let t = &scratch[..];

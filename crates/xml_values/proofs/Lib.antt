@@ -1,3 +1,4 @@
 pub mod Attributes
 pub mod Unlisted
 pub mod Views
+pub mod Decided

@@ -1,18 +1,19 @@
 -- How a value is shown, by the tests of the code; and that the bytes which are shown are those that the value says.
 -- Assumes nothing.
-use mathlib.Core.Path.{_≡_, refl, sym, _∙_}
+use mathlib.Core.Path.{_≡_, refl, sym, _∙_, ap}
 use mathlib.Core.Bool.{Bool, true, false}
 use mathlib.Core.List.{List, [], _∷_, _++_}
 use Prim.Native.Nat.{ℕ, _+_, _-_, _<_, _≤_}
 use Prim.Native.Char.{code}
 use native.Mathlib.Omega.{arith}
-use borrow.Author.Tests.{eq-eqb, ne-eqb}
-use lib.Dec.{eqb}
+use borrow.Author.Tests.{eq-eqb, ne-eqb, le-leb, lt-leb, leb-true}
+use lib.Dec.{eqb, leb}
 use lib.ListN.{length, take, drop, getD, length-append, length-drop}
 use lib.Seq.{take-at, length-take-le}
-use Rattle.text_scan.specs.Choice.{pick, not}
+use denote.Ref.{RefT}
+use Rattle.text_scan.specs.Choice.{pick, _and_, not}
 use Rattle.text_scan.specs.Lists.{every}
-use Rattle.text_scan.proofs.Tests.{and-left, and-right, and-false}
+use Rattle.text_scan.proofs.Tests.{pick-case, and-left, and-right, and-false}
 use Rattle.text_scan.proofs.Lists.{Every, every-goes, every-stops}
 use Rattle.xml_reader.specs.Limits.{valueLimit}
 use Rattle.xml_references.specs.Decoded.{part, decoded, isPlain}
@@ -22,7 +23,7 @@ use Rattle.xml_values.specs.declared.Place.the-variants.{At, Nothing}
 use Rattle.xml_values.specs.declared.View.{View}
 use Rattle.xml_values.specs.declared.View.the-variants.{Document, Scratch}
 use Rattle.xml_values.specs.Attributes.{attributePlace, valueAt, attributeOf}
-use Rattle.xml_values.specs.Views.{isShown, viewOf, plainOf, scratchAfter, seen, InRange, Shows}
+use Rattle.xml_values.specs.Views.{isShown, viewOf, plainOf, scratchAfter, seen, InRange, within, Shows, standOf, ShowsAt}
 use Rattle.xml_values.proofs.Attributes.{Within, attribute-within}
 
 -- ---- the loop over raw bytes
@@ -135,12 +136,77 @@ module _ (s scratch : List ℕ) (view : View) (r : InRange s scratch view) where
     pub part-seen : part s a e ≡ seen s scratch view
     part-seen = rw z
 
+    pub part-stands : (d o : RefT (List ℕ)) → (d .ptr .0, a + d .ptr .1) ≡ standOf d o view
+    part-stands d o = rw z
+
   module _ (n : ℕ) (z : view ≡ Scratch n) where
     pub front-length : n ≡ length (take n scratch)
     front-length = sym (length-take-le n scratch (rw z at r))
 
     pub front-seen : take n scratch ≡ seen s scratch view
     front-seen = rw z
+
+    pub front-stands : (d o : RefT (List ℕ)) → o .ptr ≡ standOf d o view
+    front-stands d o = rw z
+
+-- ---- a view in range, and one that is not
+module _ (m k : ℕ) (view : View) where
+  module _ (a e : ℕ) (z : view ≡ Document a e) where
+    pub ends-first : e < a → Document 0 0 ≡ within m k view
+    unfolding within
+    ends-first h = rw (z, lt-leb a e h)
+
+    module _ (h : a ≤ e) where
+      pub ends-outside : m < e → Document 0 0 ≡ within m k view
+      unfolding within
+      ends-outside g = rw (z, le-leb a e h, lt-leb e m g)
+
+      pub part-within : e ≤ m → Document a e ≡ within m k view
+      unfolding within
+      part-within g = rw (z, le-leb a e h, le-leb e m g)
+
+  module _ (n : ℕ) (z : view ≡ Scratch n) where
+    pub front-outside : k < n → Document 0 0 ≡ within m k view
+    unfolding within
+    front-outside h = rw (z, lt-leb n k h)
+
+    pub front-within : n ≤ k → Scratch n ≡ within m k view
+    unfolding within
+    front-within h = rw (z, le-leb n k h)
+
+pub within-range : (s scratch : List ℕ) (view : View) → InRange s scratch (within (length s) (length scratch) view)
+unfolding within
+within-range s scratch (Document a e) = go (leb a e) refl (leb e (length s)) refl
+  where
+    go : (t : Bool) → leb a e ≡ t → (u : Bool) → leb e (length s) ≡ u → InRange s scratch (pick (t and u) (Document a e) (Document 0 0))
+    go true p true q = (leb-true a e p, leb-true e (length s) q)
+    go true p false q = (omega arith, omega arith)
+    go false p u q = (omega arith, omega arith)
+within-range s scratch (Scratch n) =
+    pick-case (InRange s scratch) (leb n (length scratch)) (Scratch n) (Document 0 0) (λ e. leb-true n (length scratch) e) (λ _. (omega arith, omega arith))
+
+pub within-same : (s scratch : List ℕ) (view : View) → InRange s scratch view → within (length s) (length scratch) view ≡ view
+unfolding within
+within-same s scratch (Document a e) r = rw (le-leb a e (r .0), le-leb e (length s) (r .1))
+within-same s scratch (Scratch n) r = rw (le-leb n (length scratch) r)
+
+-- the document is handed on as e
+module _ (d e o : RefT (List ℕ)) (q : e ≡ d) (view v : View) (w : v ≡ within (length (d .now)) (length (o .now)) view) where
+  pub same-range : InRange (e .now) (o .now) v
+  same-range = rw (q, w) (within-range (d .now) (o .now) view)
+
+  pub same-shown : (r : RefT (List ℕ)) → ShowsAt e o v (seen (e .now) (o .now) v) r → ShowsAt d o (within (length (d .now)) (length (o .now)) view) (seen (d .now) (o .now) (within (length (d .now)) (length (o .now)) view)) r
+  same-shown r x = rw (← w, ← q) x
+
+-- what is shown of a scratch area t, lent on from o, is shown of o
+same-stand : (d t o : RefT (List ℕ)) (view : View) → t .ptr ≡ o .ptr → standOf d t view ≡ standOf d o view
+same-stand d t o (Document a e) q = refl
+same-stand d t o (Scratch n) q = q
+
+pub shown-of : (d t : RefT (List ℕ)) (view : View) (r : RefT (List ℕ)) → ShowsAt d t (within (length (d .now)) (length (t .now)) view) (seen (d .now) (t .now) (within (length (d .now)) (length (t .now)) view)) r → InRange (d .now) (t .now) view → (o : RefT (List ℕ)) (right : View) (said : List ℕ) → t .ptr ≡ o .ptr → view ≡ right → seen (d .now) (t .now) view ≡ said → ShowsAt d o right said r
+shown-of d t view r x w o right said q v b =
+    let e : within (length (d .now)) (length (t .now)) view ≡ view = within-same (d .now) (t .now) view w in
+    record { says = x .says ∙ ap (seen (d .now) (t .now)) e ∙ b; stands = x .stands ∙ ap (standOf d t) e ∙ same-stand d t o view q ∙ ap (standOf d o) v }
 
 -- ---- an attribute's value is shown, and seen
 pub attribute-front : (s : List ℕ) (place : Place) (out : List ℕ) (p : Place) → p ≡ place → (a e : ℕ) → p ≡ At a e → (t : Bool) → t ≡ every isShown (part s a e) → (n : ℕ) (out′ : List ℕ) → t ≡ false → (n ≡ length (decoded s a e)) × (out′ ≡ decoded s a e ++ drop n out) → Shows s place (valueAt s place) out (Scratch n) out′
@@ -159,8 +225,8 @@ module _ (s : List ℕ) (first : ℕ) (name scratch : List ℕ) (view : View) (a
   pub attribute-in-range : InRange s after view
   attribute-in-range = in-range s (attributeOf s first name) scratch room (attributePlace s first name) (attribute-says s first name) view after x
 
-  pub attribute-seen : (r : List ℕ) → r ≡ seen s after view → r ≡ attributeOf s first name
-  attribute-seen r e = e ∙ seen-is s (attributeOf s first name) scratch room (attributePlace s first name) (attribute-says s first name) view after x
+  pub attribute-seen : seen s after view ≡ attributeOf s first name
+  attribute-seen = seen-is s (attributeOf s first name) scratch room (attributePlace s first name) (attribute-says s first name) view after x
 
 -- ---- an attribute that says the bytes where it stands
 module _ (s : List ℕ) (first : ℕ) (name : List ℕ) (p : Place) where

@@ -1,4 +1,3 @@
 pub mod Attributes
 pub mod Views
 pub mod Examples
-pub mod Unique

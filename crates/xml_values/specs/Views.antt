@@ -1,13 +1,14 @@
 -- How a value is shown (document 01, "Reading the document"): one without references or dropped parts as that part of the document, any other as the
 -- front of the scratch area. An absent value is an empty part of the document.
 -- Assumes nothing.
-use Prim.Native.Nat.{ℕ, _≤_}
+use Prim.Native.Nat.{ℕ, _+_, _≤_}
 use Prim.Native.Char.{code}
 use mathlib.Core.Path.{_≡_}
 use mathlib.Core.Bool.{Bool}
 use mathlib.Core.List.{List, _++_}
-use lib.Dec.{eqb}
+use lib.Dec.{eqb, leb}
 use lib.ListN.{length, take, drop}
+use denote.Ref.{RefT}
 use Rattle.text_scan.specs.Choice.{pick, _and_, not}
 use Rattle.text_scan.specs.Lists.{every}
 use Rattle.xml_references.specs.Decoded.{part}
@@ -45,7 +46,22 @@ abbrev pub InRange : List ℕ → List ℕ → View → Type 0
 InRange s scratch (Document a e) = (a ≤ e) × (e ≤ length s)
 InRange s scratch (Scratch n) = n ≤ length scratch
 
+-- the same view where its numbers are in range of so many bytes of the document and of the scratch area; an empty part of the document where not
+unfoldable pub within : ℕ → ℕ → View → View
+within m k (Document a e) = pick (leb a e and leb e m) (Document a e) (Document 0 0)
+within m k (Scratch n) = pick (leb n k) (Scratch n) (Document 0 0)
+
 -- what a reader of a value with this raw place, which says these bytes, answers, and leaves of the scratch area
 pub record Shows (s : List ℕ) (place : Place) (bytes scratch : List ℕ) (view : View) (after : List ℕ) : Type 0 where
   pub answers : view ≡ viewOf s place bytes
   pub leaves : after ≡ scratchAfter (viewOf s place bytes) bytes scratch
+
+-- where the bytes of a view stand: so many behind the first of the document, or from the first of the scratch area on
+abbrev pub standOf : RefT (List ℕ) → RefT (List ℕ) → View → ℕ × ℕ
+standOf s scratch (Document a e) = (s .ptr .0, a + s .ptr .1)
+standOf s scratch (Scratch n) = scratch .ptr
+
+-- the slice that shows a value: it says these bytes, and stands where the view has them
+pub record ShowsAt (s scratch : RefT (List ℕ)) (view : View) (bytes : List ℕ) (r : RefT (List ℕ)) : Type 0 where
+  pub says : r .now ≡ bytes
+  pub stands : r .ptr ≡ standOf s scratch view

@@ -8,7 +8,7 @@ ghost use Rattle.text_scan.specs.Lists.{every};
 ghost use Rattle.xml_reader.specs.Limits.{valueLimit};
 ghost use Rattle.xml_names.specs.Names.{nameEnd};
 ghost use Rattle.xml_values.specs.Attributes.{nameAfter, isBare, attributePlace, attributeOf, isListed, hasOther};
-ghost use Rattle.xml_values.specs.Views.{isShown, plainOf, seen, InRange, Shows};
+ghost use Rattle.xml_values.specs.Views.{isShown, viewOf, plainOf, seen, InRange, within, Shows, ShowsAt};
 use xml_attributes::TagPart;
 use xml_reader::Reader;
 
@@ -168,7 +168,7 @@ fn shorter<'d: 's, 's>(document: &'d [u8], at: &'s [u8]) -> &'s [u8]
 
 fn either<'r>(document: &'r [u8], scratch: &'r [u8], view: View) -> &'r [u8]
     requires { ⌜ InRange (now document) (now scratch) view ⌝ }
-    ensures { λ r. ⌜ now r ≡ seen (now (document .entry)) (now (scratch .entry)) view ⌝ }
+    ensures { λ r. ⌜ ShowsAt (document .entry) (scratch .entry) view (seen (now (document .entry)) (now (scratch .entry)) view) r ⌝ }
 {
     match view {
         View::Document(a, e) => &document[a..e],
@@ -176,19 +176,42 @@ fn either<'r>(document: &'r [u8], scratch: &'r [u8], view: View) -> &'r [u8]
     }
 }
 
-// The bytes that are shown: a part of the document or of the scratch area, which have lifetimes of their own.
-pub fn shown<'d: 's, 's>(document: &'d [u8], scratch: &'s [u8], view: View) -> &'s [u8]
-    requires { ⌜ InRange (now document) (now scratch) view ⌝ }
-    ensures { λ r. ⌜ now r ≡ seen (now (document .entry)) (now (scratch .entry)) view ⌝ }
+// A view of so many bytes of the document and of the scratch area: an empty part of the document where its numbers are out of range.
+fn in_range(view: View, document: usize, scratch: usize) -> View
+    ensures { λ r. ⌜ r ≡ within document scratch view ⌝ }
 {
-    let d = shorter(document, scratch);
-    either(d, scratch, view)
+    match view {
+        View::Document(first, after) => {
+            if after < first {
+                return View::Document(0, 0);
+            }
+            if document < after {
+                return View::Document(0, 0);
+            }
+            return View::Document(first, after);
+        }
+        View::Scratch(n) => {
+            if scratch < n {
+                return View::Document(0, 0);
+            }
+            return View::Scratch(n);
+        }
+    }
 }
 
-// What the attribute `name` of the tag that begins at `first` says.
+// The bytes that are shown: a part of the document or of the scratch area, which have lifetimes of their own.
+pub fn shown<'d: 's, 's>(document: &'d [u8], scratch: &'s [u8], view: View) -> &'s [u8]
+    ensures { λ r. ⌜ ShowsAt (document .entry) (scratch .entry) (within (length (now (document .entry))) (length (now (scratch .entry))) view) (seen (now (document .entry)) (now (scratch .entry)) (within (length (now (document .entry))) (length (now (scratch .entry))) view)) r ⌝ }
+{
+    let v = in_range(view, document.len(), scratch.len());
+    let d = shorter(document, scratch);
+    either(d, scratch, v)
+}
+
+// What the attribute `name` of the tag that begins at `first` says: that part of s, or the front of `out`.
 pub fn attribute<'d: 's, 's>(s: &'d [u8], first: usize, name: &[u8], out: &'s mut [u8]) -> &'s [u8]
     requires { ⌜ valueLimit ≤ length (now out) ⌝ }
-    ensures { λ r. ⌜ now r ≡ attributeOf (now (s .entry)) first (now (name .entry)) ⌝ }
+    ensures { λ r. ⌜ ShowsAt (s .entry) (out .entry) (viewOf (now (s .entry)) (attributePlace (now (s .entry)) first (now (name .entry))) (attributeOf (now (s .entry)) first (now (name .entry)))) (attributeOf (now (s .entry)) first (now (name .entry))) r ⌝ }
 {
     let view = attribute_value(s, first, name, out);
     let t = &out[..];

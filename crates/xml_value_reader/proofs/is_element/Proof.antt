@@ -11,8 +11,8 @@ first-bad-requires c κs = search needs
 returns : tie.Need-returns
 returns c = search not-sound
 
-tag-at-requires : tie.Need-tag-at-requires
-tag-at-requires c κs = search needs
+opening-at-requires : tie.Need-opening-at-requires
+opening-at-requires c κs = search needs
 
 is-tag-requires : tie.Need-is-tag-requires
 is-tag-requires c κs = search needs
@@ -44,7 +44,7 @@ is-element-spec =
     (tie.spec
     first-bad-requires
     returns
-    tag-at-requires
+    opening-at-requires
     is-tag-requires
     text-place-requires
     enum-known-e

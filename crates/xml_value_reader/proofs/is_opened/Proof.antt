@@ -5,8 +5,8 @@ use borrow.Author.Needs.{needs}
 use Rattle.xml_value_reader.proofs.is_opened.Statement.{statement}
 use Rattle.xml_value_reader.proofs.is_opened.Tie as tie
 
-tag-at-requires : tie.Need-tag-at-requires
-tag-at-requires c κs = search needs
+opening-at-requires : tie.Need-opening-at-requires
+opening-at-requires c κs = search needs
 
 enum-known-after : tie.Need-enum-known-after
 enum-known-after c = search needs
@@ -36,7 +36,7 @@ pub is-opened-spec : {M : Type 1} → statement M
 is-opened-spec =
     tie.close
     (tie.spec
-    tag-at-requires
+    opening-at-requires
     enum-known-after
     is-sound-requires
     enum-known-after-2

@@ -1,6 +1,6 @@
 -- `xml_values::either` meets its contract: a view in range.
 -- Assumes nothing.
-use Rattle.xml_values.proofs.Views.{part-ahead, part-inside, part-seen, front-length, front-seen}
+use Rattle.xml_values.proofs.Views.{part-ahead, part-inside, part-seen, part-stands, front-length, front-seen, front-stands}
 use borrow.Author.Needs.{needs}
 use Rattle.xml_values.proofs.either.Statement.{statement}
 use Rattle.xml_values.proofs.either.Tie as tie
@@ -24,10 +24,10 @@ slice-aggregate-result : tie.Need-slice-aggregate-result
 slice-aggregate-result c = search front-length
 
 returns : tie.Need-returns
-returns c = search part-seen
+returns c = search (part-seen, part-stands)
 
 returns-2 : tie.Need-returns-2
-returns-2 c = search front-seen
+returns-2 c = search (front-seen, front-stands)
 
 pub either-spec : {M : Type 1} → statement M
 either-spec =

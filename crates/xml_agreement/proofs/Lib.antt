@@ -1,0 +1,13 @@
+pub mod Range
+pub mod Values
+pub mod Tags
+pub mod Sound
+pub mod Closed
+pub mod Walks
+pub mod Pieces
+pub mod Contents
+pub mod Reach
+pub mod Whole
+pub mod Read
+pub mod Names
+pub mod Agreement
