@@ -24,7 +24,7 @@ extern "C" {
 
 /* The number of this interface: one more wherever a function takes, answers or leaves something else than before. bd_version answers that of the
  * archive. */
-#define BD_VERSION 1
+#define BD_VERSION 2
 uint32_t bd_version(void);
 
 /* The limits of documents, tables and elements, which refusals 1, 2, 4 and 8 stand for; a root is at depth 1. Lengths are in bytes. */
@@ -64,8 +64,7 @@ uint32_t bd_version(void);
  *   10   a decoded value over 4,096 bytes                                its first raw byte
  *   11   more findings than room                                         findings needed
  *   12   merge: a list out of order, repeating a procedure and start,    number from 0 of the first such record, first list first
- *        not in whole records, a procedure not 1 to 38, a start not
- *        below its end
+ *        a procedure not 1 to 38, a start not below its end
  *   13   merge: a document-only finding in one list alone, or one        the least such start
  *        procedure and start with two ends
  */
@@ -80,6 +79,13 @@ typedef struct {
     size_t first;
     size_t after;
 } bd_part;
+
+/* A finding: procedure, first byte, byte after, as three numbers of a list stand in memory. */
+typedef struct {
+    uint32_t procedure;
+    uint32_t first;
+    uint32_t after;
+} bd_finding;
 
 /* Checks a document under the tables. Lengths of `elements` and `list` count 32-bit numbers.
  *
@@ -96,14 +102,14 @@ bd_numbers bd_check(const uint8_t *document, size_t document_length,
                     uint32_t *elements, size_t elements_length,
                     uint32_t *list, size_t list_length);
 
-/* Merges two lists of findings of one document into a third, as records of three numbers like those of bd_check; lengths count numbers.
- * Procedures 8, 18 and 34 stay where both lists have them, 6, 12, 21 and 22 where either has; all others stand in both. `out` is filled
+/* Merges two lists of findings of one document into a third. `a_count` and `b_count` count findings; `out` is a list of numbers like that of
+ * bd_check, and `out_length` counts numbers. Procedures 8, 18 and 34 stay where both lists have them, 6, 12, 21 and 22 where either has; all others stand in both. `out` is filled
  * from the front, and the rest keeps its content.
  *
  * Refuses with 12, 13 or 11, tested in this order. Nothing lent changes on a refusal.
  */
-bd_numbers bd_merge(const uint32_t *a, size_t a_length,
-                    const uint32_t *b, size_t b_length,
+bd_numbers bd_merge(const bd_finding *a, size_t a_count,
+                    const bd_finding *b, size_t b_count,
                     uint32_t *out, size_t out_length);
 
 /* Reads the attribute `name`, or the text where `name` is empty, of the element from byte `first` to before byte `after` of the

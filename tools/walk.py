@@ -10,8 +10,11 @@ there against the crate's own code and contracts: neither the model nor this scr
 
 STRUCT is `S`, or `other::S` for another crate's.
 
-  read:FN   a function that itself reads an element (`a[i]`): the array stands for the struct in all of it
-  pass:FN   a function that passes the slices on or asks `.len()`: the array stands for the struct as the slices' element only
+  read:FN   a function that itself reads or writes an element (`a[i]`): the array stands for the struct in all of it
+  pass:FN   a function that passes slices on, or parts of slices or of local arrays, or asks `.len()`: the array stands for the struct as their
+            element only
+
+Crates below with functions that were derived are modelled too, as stubs.
 
 Written: proofs/Shown/FN/{Kinds,Reads}.antt (public: a caller's derivation names them) and proofs/FN/Proof/{Lts,Tie}.antt (the function's code is
 private to what stands below it). proofs/FN/Proof.antt is the author's: its start is written where there is none. The model is in target/model.
@@ -23,15 +26,37 @@ todo = [w.split(":") for w in words]
 lines = [l for l in pathlib.Path("crates.txt").read_text().splitlines() if l.strip() and not l.startswith("#")]
 deps = {l.split(":")[0].strip(): l.split(":")[1].split() for l in lines}
 of, STRUCT = struct_path if len(struct_path) == 2 else [name, *struct_path]
-needed = [name]
-for n in needed:
-    needed += [d for d in deps.get(n, []) if d in deps and d not in needed]
+
+
+def reached(c):
+    """a crate and those that it needs, the nearer first"""
+    out = [c]
+    for n in out:
+        out += [d for d in deps[n] if d in deps and d not in out]
+    return out
+
+
+needed = reached(name)
 crate, lib, work = pathlib.Path("crates") / name, f"Rattle.{name}.proofs", pathlib.Path("target/model")
 repo = work / "repo"
 
 
+def shown(c):
+    """the functions of a crate whose derivations this script wrote"""
+    return [part.stem for part in (pathlib.Path("crates") / c / "proofs" / "Shown").glob("*.antt")]
+
+
+# the crates below with such functions, which the model has as stubs
+modelled = [c for c in needed[1:] if shown(c)]
+
+
+def root(c):
+    """the root file of a crate: of a library or of a program"""
+    return next(f for f in ("lib.rt", "main.rt") if (pathlib.Path("crates") / c / "src" / f).exists())
+
+
 def source(c):
-    return (pathlib.Path("crates") / c / "src" / "lib.rt").read_text()
+    return (pathlib.Path("crates") / c / "src" / root(c)).read_text()
 
 
 # ---- the struct, and the array that stands for it
@@ -53,7 +78,7 @@ def items(text):
         if re.match(r"(pub )?(fn|struct|enum|const|impl|ghost|use)\b|//", line) and out[-1] and (not out[-1][-1].strip() or out[-1][-1].rstrip().endswith(("}", ";"))):
             out.append([])
         out[-1].append(line)
-    named = lambda it: re.search(r"^(?:pub )?fn (\w+)", it, re.M)
+    named = lambda it: re.search(r'^(?:pub )?(?:extern "C" )?fn (\w+)', it, re.M)
     return [(named(it).group(1) if named(it) else None, it) for it in map("".join, out)]
 
 
@@ -65,9 +90,12 @@ def trivial(it):
 
 def value(ty, types):
     """some value of a type"""
-    if ty not in types:
+    if ty.startswith("["):
+        of, n = ty[1:-1].rsplit("; ", 1)
+        return f"[{value(of, types)}; {n}]"
+    kind, body = types.get(ty.split("::")[-1], (None, None))
+    if not kind:
         return "true" if ty == "bool" else "0"
-    kind, body = types[ty]
     if kind == "struct":
         return f"{ty} {{ " + ", ".join(f"{f}: {value(t, types)}" for f, t in re.findall(r"(\w+): (\w+),", body)) + " }"
     variant, parts = re.match(r"\s*(\w+)(?:\((.*?)\))?", body).groups()
@@ -76,25 +104,28 @@ def value(ty, types):
 
 def stub(it, types):
     """the function with a body that does nothing, so that its proof is made for it: a caller of a function with no proof gets no Tie"""
-    head = it[: it.rindex("\n{\n")]
-    result = re.search(r"->\s*(\w+)", head)
+    head = it[: re.search(r"^\{$| \{$", it, re.M).start()].rstrip()
+    result = re.search(r"->\s*(\[.*\]|[\w:]+)", head)
     return f"{head}\n{{\n    {value(result.group(1), types) if result else ''}\n}}\n\n"
 
 
-def model(kind, fn):
+def model(c, kind, fn):
     """the crate with every other function a stub"""
-    types = {n: (k, b) for c in needed for k, n, b in re.findall(r"^pub (struct|enum) (\w+) \{\n(.*?)^\}", source(c).replace("    pub ", "    "), re.M | re.S)}
+    declared = r"^pub (struct|enum) (\w+) \{\n(.*?)^\}"
+    types = {n: (k, b) for d in reversed(reached(c)) for k, n, b in re.findall(declared, source(d).replace("    pub ", "    "), re.M | re.S)}
     out = ["ghost use Prim.Native.Nat.{_≤_};\n"]
-    for f, it in items(source(name)):
+    for f, it in items(source(c)):
         if it.startswith("ghost"):
             continue
-        it = it.replace(f"[{STRUCT}]", f"[{MODEL}]")
+        it = it.replace(f"[{STRUCT}]", f"[{MODEL}]").replace(f"[{STRUCT}; ", f"[{MODEL}; ")
         if f:
             it = trivial(it if f == fn else stub(it, types))
         if f == fn and kind == "read":
             it = re.sub(rf"\b{STRUCT}\b", MODEL, it)
         out.append(it)
-    (repo / "crates" / name / "src" / "lib.rt").write_text("".join(out))
+    home = repo / "crates" / c / "src"
+    home.mkdir(parents=True, exist_ok=True)
+    (home / root(c)).write_text("".join(out))
 
 
 # ---- carrying over: what is inserted names a module by its whole path, in ⟪ ⟫, and `resolve` gives it the name that the print's `use` lines leave
@@ -117,7 +148,10 @@ BY_VALUE = f"""record {{ ty = {ROW}; one = {REFL}; val = {LAWS}.val {S}.the-type
 ELEM, ARRAY = f"(Referent.rtF (Referent.fInt {WIDTH}))", f"(Syntax.tyArray (Syntax.tyInt {WIDTH}) {LEN})"
 # what the print has of the array, and what is put in its place; the default of a read past the end is the struct of zeros
 CARRIED = [
+    (f"Array.eArr-laws (Array.eInt {WIDTH}) (Array.eInt-laws {WIDTH}) {LEN}", f"Array.eStruct-laws {S}.the-type {L}.the-laws {L}.the-copy {L}.the-plain"),
+    (f"Array.eArr (Array.eInt {WIDTH}) {LEN}", f"Array.eStruct {S}.the-type {L}.the-laws {L}.the-copy"),
     (f"Array.rArr (Array.eInt {WIDTH}) (Array.eInt-laws {WIDTH}) {LEN}", f"{VALUE}.rVal {BY_VALUE}"),
+    (f"Array.pArr (Array.eInt {WIDTH}) (Array.eInt-laws {WIDTH}) {LEN}", f"{VALUE}.pVal {BY_VALUE}"),
     (f"Rows.arrF {ELEM} {LEN} 0", WHOLE),
     (f"Copies.cArr {ELEM} (Copies.cRf (Referent.fInt {WIDTH})) {LEN}", f"Copies.cStruct {S}.the-type {L}.the-laws {L}.the-copy"),
     (f"Whole.mem-arr 𝓤 H A W {ELEM} {LEN} ρ", f"{LOCAL}.mem-whole 𝓤 H A W ({ROW}) ρ"),
@@ -128,6 +162,7 @@ CARRIED = [
     (f"Array.Array {ELEM} {LEN}", ROW),
     # behind a reference the struct is its bare name, elsewhere its fields are spelled out
     (f"Syntax.imm {ARRAY}", f"Syntax.imm {POINTEE}"),
+    (f"Syntax.mut {ARRAY}", f"Syntax.mut {POINTEE}"),
     (ARRAY, f"{L}.mir"),
 ]
 
@@ -178,9 +213,10 @@ def entries(text):
 
 
 def moved(text, fn):
-    """the paths of what this script writes"""
-    for _, g in todo:
-        text = re.sub(rf"^(use {lib}\.proofs\.){g}\.(Kinds|Reads)\b", rf"\1Shown.{g}.\2", text, flags=re.M)
+    """the paths of what this script writes, here and in the crates below"""
+    for c in [name, *modelled]:
+        for g in [g for _, g in todo] if c == name else shown(c):
+            text = re.sub(rf"^(use {lib if c == name else f'Rattle.{c}'}\.proofs\.){g}\.(Kinds|Reads)\b", rf"\1Shown.{g}.\2", text, flags=re.M)
     return re.sub(rf"^(use {lib}\.proofs\.{fn}\.)(Lts|Tie)", r"\1Proof.\2", text, flags=re.M)
 
 
@@ -197,9 +233,16 @@ def resolve(text):
     return text
 
 
+def loose(words):
+    """a pattern for these words, however the print breaks its lines"""
+    return re.sub(r"(?:\\ )+", r"\\s+", re.escape(words))
+
+
 def carry(text, fn):
-    for old, new in CARRIED:  # however the print breaks its lines
-        text = re.sub(re.sub(r"(?:\\ )+", r"\\s+", re.escape(old)), lambda _: " ".join(new.split()), text)
+    # behind a reference the struct is its bare name, in an array too
+    text = re.sub(rf"(Syntax\.(?:imm|mut)\s+\(Syntax\.tyArray\s+){loose(ARRAY)}", lambda m: m.group(1) + POINTEE, text)
+    for old, new in CARRIED:
+        text = re.sub(loose(old), lambda _: " ".join(new.split()), text)
     text = resolve(moved(entries(unspelled(text)), fn))
     ours = f"-- Derived by tools/derive.sh of a model of `{fn}`: what the borrow checker prints, with `{STRUCT}` for the model's array. Assumes nothing."
     return filled(text.replace("-- the `use` lines below are this print's own: the module states none of them", ours))
@@ -229,21 +272,29 @@ def filled(text, width=200):
 
 # ---- a repository of the model and of the crates that it needs; what is proved of those here or in an earlier run is not proved again
 shutil.rmtree(repo / "crates", ignore_errors=True)
-(repo / "crates" / name / "src").mkdir(parents=True)
+(repo / "crates").mkdir(parents=True)
+(repo / "crates.txt").write_text("".join(l + "\n" for l in lines if l.split(":")[0] in needed))  # the lines as they stand: a stamp hashes them
 for n in needed[1:]:
+    if n in modelled:
+        model(n, None, None)
+        continue
     (repo / "crates" / n).symlink_to((pathlib.Path("crates") / n).resolve())
-(repo / "crates.txt").write_text("".join(f"{n}: {' '.join(deps[n])}\n" for n in needed))
-for part in ("stamp", "rlib", "log"):
-    if (pathlib.Path("target") / part).is_dir():
-        shutil.copytree(pathlib.Path("target") / part, repo / "target" / part, dirs_exist_ok=True)
+    for part in (f"stamp/{n}", f"rlib/{n}.rlib"):
+        proved, here = pathlib.Path("target") / part, repo / "target" / part
+        if proved.is_dir():
+            shutil.rmtree(here, ignore_errors=True)
+            shutil.copytree(proved, here)
+        elif proved.exists():
+            here.parent.mkdir(parents=True, exist_ok=True)
+            shutil.copy(proved, here)
 proofs = crate / "proofs"
 for kind, fn in todo:
-    model(kind, fn)
+    model(name, kind, fn)
     printed = work / fn
     shutil.rmtree(printed, ignore_errors=True)
     run = lambda *words: subprocess.run(["rt", *words], cwd=repo, capture_output=True, text=True)
-    run("check", *needed[1:])
-    said = run("dev", name).stdout
+    told = run("dev", name)
+    said = told.stdout + told.stderr
     run("dev", name, "--generated", str(printed.resolve()))
     gen = printed / lib / "proofs" / fn
     if not (gen / "Tie.antt").exists():

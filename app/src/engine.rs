@@ -18,7 +18,7 @@ const FINDING_NUMBERS: usize = 3;
 const PROCEDURES: usize = 38;
 
 /// The interface that this program knows, as the header numbers it.
-const INTERFACE: u32 = 1;
+const INTERFACE: u32 = 2;
 
 /// What a thread that calls the proved functions has: twice what the header asks for, the rest for the program's own frames.
 const STACK: usize = 8 * 1_048_576;
@@ -63,6 +63,14 @@ struct Numbers {
     value: usize,
 }
 
+/// `bd_finding` of the header.
+#[repr(C)]
+struct Record {
+    procedure: u32,
+    first: u32,
+    after: u32,
+}
+
 extern "C" {
     fn bd_version() -> u32;
     fn bd_check(
@@ -77,7 +85,7 @@ extern "C" {
         list: *mut u32,
         list_length: usize,
     ) -> Numbers;
-    fn bd_merge(a: *const u32, a_length: usize, b: *const u32, b_length: usize, out: *mut u32, out_length: usize) -> Numbers;
+    fn bd_merge(a: *const Record, a_count: usize, b: *const Record, b_count: usize, out: *mut u32, out_length: usize) -> Numbers;
 }
 
 /// Whether the functions have the interface that this program knows.
@@ -127,9 +135,9 @@ impl Engine {
 
     /// The merge of two lists of one document, or the refusal.
     pub fn merge(&mut self, a: &[Finding], b: &[Finding]) -> Result<Vec<Finding>, Refusal> {
-        let (a, b) = (numbers_of(a), numbers_of(b));
+        let (a, b) = (records_of(a), records_of(b));
         // As above; a merge is never longer than its two lists together.
-        self.list.resize(self.list.len().max(a.len() + b.len()), 0);
+        self.list.resize(self.list.len().max((a.len() + b.len()) * FINDING_NUMBERS), 0);
         let numbers = unsafe { bd_merge(a.as_ptr(), a.len(), b.as_ptr(), b.len(), self.list.as_mut_ptr(), self.list.len()) };
         Ok(findings_of(&self.list, numbers.count()?))
     }
@@ -160,8 +168,8 @@ fn findings_of(list: &[u32], count: usize) -> Vec<Finding> {
     records.map(|record| Finding { procedure: record[0], first: record[1], after: record[2] }).collect()
 }
 
-fn numbers_of(findings: &[Finding]) -> Vec<u32> {
-    findings.iter().flat_map(|finding| [finding.procedure, finding.first, finding.after]).collect()
+fn records_of(findings: &[Finding]) -> Vec<Record> {
+    findings.iter().map(|&Finding { procedure, first, after }| Record { procedure, first, after }).collect()
 }
 
 /// Runs the program's work on a thread with the stack that the proved functions need. Without an answer the work panicked.

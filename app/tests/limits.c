@@ -137,9 +137,9 @@ static bd_numbers row_of(size_t bytes) {
 }
 
 static bd_numbers merge_of(uint32_t procedure) {
-    uint32_t record[BD_FINDING_NUMBERS] = {procedure, 0, 4};
+    bd_finding finding = {procedure, 0, 4};
     uint32_t out[2 * BD_FINDING_NUMBERS];
-    return bd_merge(record, BD_FINDING_NUMBERS, record, BD_FINDING_NUMBERS, out, 2 * BD_FINDING_NUMBERS);
+    return bd_merge(&finding, 1, &finding, 1, out, 2 * BD_FINDING_NUMBERS);
 }
 
 /* Many operation codes, which are looked for in a long code list: then rows are sorted, which takes the most stack. */

@@ -2,13 +2,15 @@
 //!
 //! Built with `--cfg standin`, the reference stands in for the archive, so that the harness can be tried without it.
 
+use std::borrow::Cow;
+
 #[cfg(standin)]
 #[path = "standin.rs"]
 mod archive;
 
 #[cfg(not(standin))]
 mod archive {
-    use super::{Numbers, Part};
+    use super::{Finding, Numbers, Part};
 
     unsafe extern "C" {
         pub fn bd_check(
@@ -19,8 +21,8 @@ mod archive {
             findings: *mut u32, findings_length: usize,
         ) -> Numbers;
         pub fn bd_merge(
-            a: *const u32, a_length: usize,
-            b: *const u32, b_length: usize,
+            a: *const Finding, a_count: usize,
+            b: *const Finding, b_count: usize,
             out: *mut u32, out_length: usize,
         ) -> Numbers;
         pub fn bd_value(
@@ -47,6 +49,17 @@ impl Numbers {
     }
 }
 
+/// `bd_finding` of `benchdowel.h`: three numbers of a list, as they stand in memory.
+#[repr(C)]
+pub struct Finding {
+    pub procedure: u32,
+    pub first: u32,
+    pub after: u32,
+}
+
+/// The numbers of a finding.
+const NUMBERS: usize = 3;
+
 /// `bd_part` of `benchdowel.h`: a part of the document, or, if `in_scratch` is 1, of the scratch area.
 #[repr(C)]
 #[derive(Clone, Copy)]
@@ -70,9 +83,22 @@ pub fn check(document: &[u8], tables: &[u8], scratch: &mut [u8], elements: &mut 
     numbers.pair()
 }
 
+/// The lists are lent where they stand, as findings.
 pub fn merge(a: &[u32], b: &[u32], out: &mut [u32]) -> (u32, u32) {
-    let numbers = unsafe { archive::bd_merge(a.as_ptr(), a.len(), b.as_ptr(), b.len(), out.as_mut_ptr(), out.len()) };
+    let (a, b) = (whole(a), whole(b));
+    let (first, second) = (a.as_ptr().cast(), b.as_ptr().cast());
+    let numbers = unsafe { archive::bd_merge(first, a.len() / NUMBERS, second, b.len() / NUMBERS, out.as_mut_ptr(), out.len()) };
     numbers.pair()
+}
+
+/// A list in whole records: where the last one is not, a copy that has 0 for what is missing, so that its start is not below its end.
+fn whole(list: &[u32]) -> Cow<'_, [u32]> {
+    let mut list = Cow::Borrowed(list);
+    if list.len() % NUMBERS > 0 {
+        let length = list.len().next_multiple_of(NUMBERS);
+        list.to_mut().resize(length, 0);
+    }
+    list
 }
 
 /// Whether the value is in scratch, where it starts and how long it is.

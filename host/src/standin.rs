@@ -3,7 +3,7 @@
 //! The variable STANDIN_FAULT names a fault to put into its answers, which the harness must then notice:
 //! answer, list, elements, scratch, behind, refused, merge or value.
 
-use super::{Numbers, Part};
+use super::{Finding, NUMBERS, Numbers, Part};
 use std::slice::{from_raw_parts, from_raw_parts_mut};
 use std::sync::OnceLock;
 
@@ -42,8 +42,9 @@ pub unsafe fn bd_check(
     Numbers { refusal, value: value as usize }
 }
 
-pub unsafe fn bd_merge(a: *const u32, a_length: usize, b: *const u32, b_length: usize, out: *mut u32, out_length: usize) -> Numbers {
-    let (a, b, out) = unsafe { (from_raw_parts(a, a_length), from_raw_parts(b, b_length), from_raw_parts_mut(out, out_length)) };
+pub unsafe fn bd_merge(a: *const Finding, a_count: usize, b: *const Finding, b_count: usize, out: *mut u32, out_length: usize) -> Numbers {
+    let (a, b) = unsafe { (from_raw_parts(a.cast(), a_count * NUMBERS), from_raw_parts(b.cast(), b_count * NUMBERS)) };
+    let out = unsafe { from_raw_parts_mut(out, out_length) };
     let other = if fault() == "merge" { a } else { b };
     let (refusal, value) = reference::merge(a, other, out);
     Numbers { refusal, value: value as usize }

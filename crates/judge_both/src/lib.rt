@@ -3,9 +3,10 @@ ghost use mathlib.Core.Path.{_≡_};
 ghost use Prim.Native.Nat.{_*_, _≤_};
 ghost use lib.ListN.{length};
 ghost use Rattle.list_findings.specs.Findings.{width};
-ghost use Rattle.judge_check.specs.Check.{checkOf};
-ghost use Rattle.judge_both.specs.Both.{asAnswer, merging, afterSecond, bothOf, BothLeft};
+ghost use Rattle.list_records.specs.Kept.{keptIn};
+ghost use Rattle.judge_both.specs.Both.{asAnswer, mergeSecond, checkSecond, bothOf, BothLeft};
 use judge_findings::Answer;
+use list_findings::Finding;
 use list_findings::Merged;
 
 // The merge's answer, as the check's.
@@ -18,53 +19,62 @@ fn as_answer(merged: Merged) -> Answer
     }
 }
 
-// Merges the fronts of two lists, of so many records each.
-fn merge_fronts(first: &[u32], n: usize, second: &[u32], m: usize, out: &mut [u32]) -> Answer
-    requires { ⌜ (n * width ≤ length (now first)) × (m * width ≤ length (now second)) ⌝ }
-    ensures { λ r. ⌜ (r ≡ asAnswer (merging (now (first .entry)) n (now (second .entry)) m (now (out .entry)) .answer)) × (now (out .exit) ≡ merging (now (first .entry)) n (now (second .entry)) m (now (out .entry)) .list) ⌝ }
+// Keeps m findings of a list behind n that are kept, and merges the two.
+fn merge_second(
+    list: &[u32],
+    m: usize,
+    records: &mut [Finding],
+    n: usize,
+    out: &mut [u32],
+) -> Answer
+    requires { ⌜ (m * width ≤ length (now list)) × (n ≤ length (now records)) ⌝ }
+    ensures { λ r. ⌜ (r ≡ asAnswer (mergeSecond (now (list .entry)) m (now (records .entry)) n (now (out .entry)) .answer)) × (now (records .exit) ≡ keptIn (now (list .entry)) m (now (records .entry)) n) × (now (out .exit) ≡ mergeSecond (now (list .entry)) m (now (records .entry)) n (now (out .entry)) .list) ⌝ }
 {
-    let k = n * list_findings::WIDTH;
-    let j = m * list_findings::WIDTH;
-    as_answer(list_merge_numbers::merge(&first[0..k], &second[0..j], out))
+    if !list_records::keep(list, m, records, n) {
+        return Answer::Refused(11, n + m);
+    }
+    as_answer(list_records::merge_parts(records, n, m, out))
 }
 
-// Checks under the second file, and merges what was found with the n findings under the first.
+// Keeps the n findings under the first file, checks under the second, and merges.
 fn check_second(
     document: &[u8],
     other: &[u8],
     scratch: &mut [u8],
     elements: &mut [u32],
-    first: &[u32],
+    list: &mut [u32],
     n: usize,
-    second: &mut [u32],
+    records: &mut [Finding],
     out: &mut [u32],
 ) -> Answer
-    requires { ⌜ n * width ≤ length (now first) ⌝ }
-    ensures { λ r. ⌜ BothLeft (afterSecond (now (first .entry)) n (checkOf (now (document .entry)) (now (other .entry)) (now (scratch .entry)) (now (elements .entry)) (now (second .entry))) (now (out .entry)) (checkOf (now (document .entry)) (now (other .entry)) (now (scratch .entry)) (now (elements .entry)) (now (second .entry)) .answer)) r (now (scratch .exit)) (now (elements .exit)) (now (first .entry)) (now (second .exit)) (now (out .exit)) ⌝ }
+    ensures { λ r. ⌜ BothLeft (checkSecond (now (document .entry)) (now (other .entry)) (now (scratch .entry)) (now (elements .entry)) (now (list .entry)) n (now (records .entry)) (now (out .entry))) r (now (scratch .exit)) (now (elements .exit)) (now (list .exit)) (now (records .exit)) (now (out .exit)) ⌝ }
 {
-    match judge_check::check(document, other, scratch, elements, second) {
+    if !list_records::keep(list, n, records, 0) {
+        return Answer::Refused(11, n);
+    }
+    match judge_check::check(document, other, scratch, elements, list) {
         Answer::Refused(number, value) => Answer::Refused(number, value),
-        Answer::Findings(m) => merge_fronts(first, n, second, m, out),
+        Answer::Findings(m) => merge_second(list, m, records, n, out),
     }
 }
 
-// Checks under the first file, then under the second, and merges what was found into the third list.
+// Checks under the first file, then under the second, each into the list; what was found is kept as records, and merged into `out`.
 pub fn check_both(
     document: &[u8],
     one: &[u8],
     other: &[u8],
     scratch: &mut [u8],
     elements: &mut [u32],
-    first: &mut [u32],
-    second: &mut [u32],
+    list: &mut [u32],
+    records: &mut [Finding],
     out: &mut [u32],
 ) -> Answer
-    ensures { λ r. ⌜ BothLeft (bothOf (now (document .entry)) (now (one .entry)) (now (other .entry)) (now (scratch .entry)) (now (elements .entry)) (now (first .entry)) (now (second .entry)) (now (out .entry))) r (now (scratch .exit)) (now (elements .exit)) (now (first .exit)) (now (second .exit)) (now (out .exit)) ⌝ }
+    ensures { λ r. ⌜ BothLeft (bothOf (now (document .entry)) (now (one .entry)) (now (other .entry)) (now (scratch .entry)) (now (elements .entry)) (now (list .entry)) (now (records .entry)) (now (out .entry))) r (now (scratch .exit)) (now (elements .exit)) (now (list .exit)) (now (records .exit)) (now (out .exit)) ⌝ }
 {
-    match judge_check::check(document, one, scratch, elements, first) {
+    match judge_check::check(document, one, scratch, elements, list) {
         Answer::Refused(number, value) => Answer::Refused(number, value),
         Answer::Findings(n) => {
-            check_second(document, other, scratch, elements, first, n, second, out)
+            check_second(document, other, scratch, elements, list, n, records, out)
         }
     }
 }

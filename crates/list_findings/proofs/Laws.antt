@@ -7,7 +7,7 @@ use Prim.Native.Nat.{ℕ, _/_, _≤_}
 use native.Mathlib.Omega.{arith}
 use borrow.Author.Tests.{eq-eqb, le-leb}
 use lib.ListN.{length, drop}
-use Rattle.text_scan.specs.Unique.{only}
+use Rattle.text_scan.proofs.Decides.{only}
 use Rattle.text_scan.specs.declared.Found.{Found}
 use Rattle.text_scan.specs.declared.Found.the-variants.{At, Nothing}
 use Rattle.list_findings.specs.declared.Finding.{Finding}

@@ -9,3 +9,4 @@ pub mod Faults
 pub mod Good
 pub mod Laws
 pub mod Listed
+pub mod Decided

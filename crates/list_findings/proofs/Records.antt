@@ -1,11 +1,11 @@
 -- Records in a run of numbers: the record at a position and the ones after it, and the run of a list of records.
 -- Assumes nothing.
 use mathlib.Core.Path.{_≡_, refl, sym, _∙_, ap}
-use mathlib.Core.Bool.{Bool, true, false}
+use mathlib.Core.Bool.{Bool, true}
 use mathlib.Core.List.{List, [], _∷_}
 use Prim.Native.Nat.{ℕ, _+_, _-_, _*_, _/_, _%_, _^_, _<_, _≤_}
 use native.Mathlib.Omega.{arith}
-use borrow.Author.Tests.{leb-true, leb-false}
+use borrow.Author.Tests.{leb-true}
 use lib.Dec.{leb}
 use lib.ListN.{length, drop, length-drop}
 use Rattle.text_scan.proofs.Within.{drop-here}
@@ -29,25 +29,12 @@ short (p ∷ f ∷ e ∷ s) h = absurd (omega arith)
 pub records-over : (s : List ℕ) (k : ℕ) → length s - k < width → records (drop k s) ≡ []
 records-over s k h = short (drop k s) (omega (arith, length-drop k s))
 
--- what the code's test says: a whole record stands at k, or none
+-- what the code's test says: a whole record stands at k
 pub there : (s : List ℕ) (k : ℕ) (t : Bool) → t ≡ leb width (length s - k) → t ≡ true → k + width ≤ length s
 there s k t e f = omega (arith, leb-true width (length s - k) (sym e ∙ f))
 
-pub there-falls : (s : List ℕ) (k : ℕ) (t : Bool) → t ≡ leb width (length s - k) → t ≡ true → length s - (k + width) < length s - k
-there-falls s k t e f = omega (arith, there s k t e f)
-
 pub there-fits : (s : List ℕ) (k : ℕ) (t : Bool) → t ≡ leb width (length s - k) → t ≡ true → length s < 2 ^ 64 → k + width < 2 ^ 64
 there-fits s k t e f l = omega (arith, there s k t e f)
-
-pub not-there : (s : List ℕ) (k : ℕ) (t : Bool) → t ≡ leb width (length s - k) → t ≡ false → length s - k < width
-not-there s k t e f = leb-false width (length s - k) (sym e ∙ f)
-
--- the records from k on, where `next` was read there
-pub records-next : (s : List ℕ) (k : ℕ) (t : Bool) (next : Finding) → t ≡ leb width (length s - k) → t ≡ true → next ≡ recordAt s k → records (drop k s) ≡ next ∷ records (drop (k + width) s)
-records-next s k t next e f q = records-here s k (there s k t e f) ∙ ap (λ (r : Finding). r ∷ records (drop (k + width) s)) (sym q)
-
-pub records-none : (s : List ℕ) (k : ℕ) (t : Bool) → t ≡ leb width (length s - k) → t ≡ false → records (drop k s) ≡ []
-records-none s k t e f = records-over s k (not-there s k t e f)
 
 pub length-records : (s : List ℕ) → length (records s) ≡ length s / width
 unfolding records

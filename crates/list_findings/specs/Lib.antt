@@ -1,3 +1,4 @@
 pub mod Findings
 pub mod Merge
 pub mod Lists
+pub mod Numbered

@@ -16,6 +16,7 @@ const KEPT_BY_BOTH: [u32; 3] = [8, 18, 34];
 
 const KEPT_BY_EITHER: [u32; 4] = [6, 12, 21, 22];
 
+#[repr(C)]
 pub struct Finding {
     pub procedure: u32,
     pub first: u32,

@@ -3,11 +3,13 @@
 use Prim.Native.Nat.{ℕ}
 use mathlib.Core.Path.{_≡_}
 use mathlib.Core.List.{List}
+use lib.ListN.{getD}
+use Rattle.text_scan.specs.Numbered.{Numbered}
 use Rattle.list_findings.specs.declared.Merged.{Merged}
-use Rattle.list_findings.specs.declared.Merged.the-variants.{Findings as Kept, Refused as Unmerged}
 use Rattle.list_findings.specs.Merge.{Merging}
+use Rattle.list_findings.specs.Numbered.{numberedMerge}
 use Rattle.judge_findings.specs.declared.Answer.{Answer}
-use Rattle.judge_findings.specs.declared.Answer.the-variants.{Findings, Refused}
+use Rattle.judge_findings.specs.Numbered.{numberedCheck}
 use Rattle.judge_check.specs.Check.{Outcome as Checking}
 use Rattle.xml_values.specs.declared.View.{View}
 use Rattle.xml_values.specs.declared.View.the-variants.{Document, Scratch}
@@ -17,32 +19,17 @@ use Rattle.program_exports.specs.declared.Part.{Part}
 
 -- ---- the number of the interface
 abbrev pub version : ℕ
-version = 1
+version = 2
 
--- ---- the check: the refusal's number, 0 where nothing is refused
-abbrev pub numberOf : Answer → ℕ
-numberOf (Findings count) = 0
-numberOf (Refused number value) = number
-
--- what the refusal returns, or the number of findings
-abbrev pub returnedOf : Answer → ℕ
-returnedOf (Findings count) = count
-returnedOf (Refused number value) = value
+-- ---- the check and the merge: the refusal's number, 0 where nothing is refused, and what the refusal returns or how many findings there are
+abbrev pub told : Numbered → Numbers
+told x = record { refusal = x .number; value = getD (x .values) 0 0 }
 
 abbrev pub checkNumbers : Answer → Numbers
-checkNumbers answer = record { refusal = numberOf answer; value = returnedOf answer }
-
--- ---- the merge, likewise
-abbrev pub mergeNumberOf : Merged → ℕ
-mergeNumberOf (Kept count) = 0
-mergeNumberOf (Unmerged number value) = number
-
-abbrev pub mergeValueOf : Merged → ℕ
-mergeValueOf (Kept count) = count
-mergeValueOf (Unmerged number value) = value
+checkNumbers answer = told (numberedCheck answer)
 
 abbrev pub mergeNumbers : Merged → Numbers
-mergeNumbers answer = record { refusal = mergeNumberOf answer; value = mergeValueOf answer }
+mergeNumbers answer = told (numberedMerge answer)
 
 -- ---- the value reader: a part of the document, or the front of the scratch area
 abbrev pub shownPart : View → Part

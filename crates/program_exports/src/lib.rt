@@ -2,8 +2,10 @@
 ghost use mathlib.Core.Path.{_≡_};
 ghost use Rattle.program_exports.specs.Numbers.{version, checkNumbers, mergeNumbers, shownPart, Checks, Merges, Reads};
 ghost use Rattle.judge_check.specs.Check.{checkOf};
+ghost use Rattle.list_findings.specs.Findings.{flat};
 ghost use Rattle.list_findings.specs.Merge.{mergeOf};
 ghost use Rattle.xml_value_reader.specs.Shown.{shownOf};
+use list_findings::Finding;
 use list_findings::Merged;
 use xml_values::View;
 
@@ -74,7 +76,7 @@ fn part_of(view: View) -> Part
 pub extern "C" fn bd_version() -> u32
     ensures { λ r. ⌜ r ≡ version ⌝ }
 {
-    1
+    2
 }
 
 // Checks a document under the tables, and stores its findings from the front of the list.
@@ -93,10 +95,10 @@ pub extern "C" fn bd_check(
 
 // Merges two lists of findings into a third, from its front.
 #[no_mangle]
-pub extern "C" fn bd_merge(a: &[u32], b: &[u32], out: &mut [u32]) -> Numbers
-    ensures { λ r. ⌜ Merges (mergeOf (now (a .entry)) (now (b .entry)) (now (out .entry))) r (now (out .exit)) ⌝ }
+pub extern "C" fn bd_merge(a: &[Finding], b: &[Finding], out: &mut [u32]) -> Numbers
+    ensures { λ r. ⌜ Merges (mergeOf (flat (now (a .entry))) (flat (now (b .entry))) (now (out .entry))) r (now (out .exit)) ⌝ }
 {
-    merge_numbers(list_merge_numbers::merge(a, b, out))
+    merge_numbers(list_merge::merge(a, b, out))
 }
 
 // Reads the attribute `name`, or the text where the name is empty, of the element from `first` to `after`.

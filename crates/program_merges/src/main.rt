@@ -5,10 +5,13 @@ ghost use lib.ListN.{length};
 ghost use Rattle.list_findings.specs.Findings.{width};
 use libc::STDIN_FILENO;
 use libc::STDOUT_FILENO;
+use list_findings::Finding;
 use list_findings::Merged;
 
-// The numbers of a list, of 16 records at most, and of a room, of 64.
-const LIST: usize = 16 * list_findings::WIDTH;
+// The records of a list, at most, and its numbers; the numbers of a room, of 64 records.
+const RECORDS: usize = 16;
+
+const LIST: usize = RECORDS * list_findings::WIDTH;
 
 const ROOM: usize = 64 * list_findings::WIDTH;
 
@@ -92,11 +95,60 @@ fn print_refusal(number: u32, place: usize, text: &mut [u8])
     io::write_all(STDOUT_FILENO, &text[..k]);
 }
 
+// The number at a place of a list, and 0 behind its end.
+fn number_at(list: &[u32], k: usize) -> u32 {
+    if k < list.len() { list[k] } else { 0 }
+}
+
+// The records of a list from its front. What is missing of a last record that is not whole is 0, so that its start is not below its end.
+fn records(list: &[u32]) -> [Finding; RECORDS] {
+    let none = Finding {
+        procedure: 0,
+        first: 0,
+        after: 0,
+    };
+    let mut made = [none; RECORDS];
+    let mut i = 0;
+    while i < RECORDS {
+        let k = i * list_findings::WIDTH;
+        made[i] = Finding {
+            procedure: number_at(list, k),
+            first: number_at(list, k + 1),
+            after: number_at(list, k + 2),
+        };
+        i += 1;
+    }
+    made
+}
+
+// How many records n numbers begin.
+fn count_of(n: usize) -> usize
+    requires { ⌜ n ≤ 16 * width ⌝ }
+    ensures { λ r. ⌜ r ≤ 16 ⌝ }
+{
+    (n + 2) / list_findings::WIDTH
+}
+
+// Merges the first n of some records with the first m of others.
+fn merge_records(
+    a: [Finding; RECORDS],
+    n: usize,
+    b: [Finding; RECORDS],
+    m: usize,
+    out: &mut [u32],
+) -> Merged
+    requires { ⌜ (n ≤ 16) × (m ≤ 16) ⌝ }
+{
+    list_merge::merge(&a[..n], &b[..m], out)
+}
+
 // Merges two lists into a third, and prints the answer.
 fn merge_block(a: &[u32], b: &[u32], out: &mut [u32])
-    requires { ⌜ length (now out) ≤ 64 * width ⌝ }
+    requires { ⌜ (length (now a) ≤ 16 * width) × (length (now b) ≤ 16 * width) × (length (now out) ≤ 64 * width) ⌝ }
 {
-    let answer = list_merge_numbers::merge(a, b, out);
+    let n = count_of(a.len());
+    let m = count_of(b.len());
+    let answer = merge_records(records(a), n, records(b), m, out);
     let mut text = [0u8; TEXT];
     match answer {
         Merged::Findings(count) => print_list(out, count, &mut text),

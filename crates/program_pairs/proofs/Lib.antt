@@ -1,1 +1,3 @@
+-- `Shown`, and `check_both/Proof`, are derived (tools/derive.sh).
+pub mod Shown
 pub mod Fronts

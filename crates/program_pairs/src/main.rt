@@ -3,6 +3,7 @@ ghost use Prim.Native.Nat.{_+_, _*_, _≤_};
 ghost use lib.ListN.{length};
 use judge_findings::Answer;
 use libc::STDOUT_FILENO;
+use list_findings::Finding;
 use list_findings::WIDTH;
 use program_answer::Got;
 use xml_reader::Reader;
@@ -31,25 +32,56 @@ fn print(answer: Answer, list: &[u32], out: &mut [u8])
     }
 }
 
-// Checks under both files and merges, with room for 256 findings in each list.
-fn judge_both(document: &[u8], one: &[u8], other: &[u8]) {
+// Room for 256 findings under each file.
+fn no_records() -> [Finding; 512] {
+    let none = Finding {
+        procedure: 0,
+        first: 0,
+        after: 0,
+    };
+    [none; 512]
+}
+
+// Checks under both files and merges, in the rooms that are lent and one for records.
+fn check_both(
+    document: &[u8],
+    one: &[u8],
+    other: &[u8],
+    scratch: &mut [u8],
+    elements: &mut [u32],
+    list: &mut [u32],
+    merged: &mut [u32],
+) -> Answer {
+    let mut records = no_records();
+    judge_both::check_both(
+        document,
+        one,
+        other,
+        scratch,
+        elements,
+        list,
+        &mut records,
+        merged,
+    )
+}
+
+// Checks and prints, with room for 256 findings in each list.
+fn judge(document: &[u8], one: &[u8], other: &[u8]) {
     let mut scratch = [0u8; Reader::SCRATCH];
     let mut elements = [0u32; 4 * program_answer::ELEMENTS];
-    let mut first = [0u32; WIDTH * 256];
-    let mut second = [0u32; WIDTH * 256];
     let mut list = [0u32; WIDTH * 256];
+    let mut merged = [0u32; WIDTH * 256];
     let mut out = [0u8; 16384];
-    let answer = judge_both::check_both(
+    let answer = check_both(
         document,
         one,
         other,
         &mut scratch,
         &mut elements,
-        &mut first,
-        &mut second,
         &mut list,
+        &mut merged,
     );
-    print(answer, &list, &mut out);
+    print(answer, &merged, &mut out);
 }
 
 // How many bytes of a file were read into the room; none where it cannot be read, which is told.
@@ -78,7 +110,7 @@ fn pair(document: &[u8], one: &[u8], other: &[u8]) {
     let n = read(document, &mut a);
     let m = read(one, &mut b);
     let k = read(other, &mut c);
-    judge_both(&a[..n], &b[..m], &c[..k]);
+    judge(&a[..n], &b[..m], &c[..k]);
 }
 
 fn main() {

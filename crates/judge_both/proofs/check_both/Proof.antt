@@ -1,9 +1,11 @@
--- `judge_both::check_both` meets its contract.
+-- `judge_both::check_both` meets its contract. `Proof/` is derived (tools/derive.sh): `Lts` of its code, `Tie` at its contract.
 -- Assumes nothing.
-use Rattle.judge_both.proofs.Steps.{first-there, first-refused, both-checked}
+mod Lts
+mod Tie
+use Rattle.judge_both.proofs.Steps.{first-refused, both-checked}
 use borrow.Author.Needs.{needs}
 use Rattle.judge_both.proofs.check_both.Statement.{statement}
-use Rattle.judge_both.proofs.check_both.Tie as tie
+use Rattle.judge_both.proofs.check_both.Proof.Tie as tie
 
 check-requires : tie.Need-check-requires
 check-requires c κs = search needs
@@ -15,7 +17,7 @@ enum-known-n : tie.Need-enum-known-n
 enum-known-n c = search needs
 
 check-second-requires : tie.Need-check-second-requires
-check-second-requires c κs = search first-there
+check-second-requires c κs = search needs
 
 same-length : tie.Need-same-length
 same-length c = search needs

@@ -1,9 +1,11 @@
--- `program_exports::bd_merge` meets its contract.
+-- `program_exports::bd_merge` meets its contract. `Proof/` is derived (tools/derive.sh): `Lts` of its code, `Tie` at its contract.
 -- Assumes nothing.
+mod Lts
+mod Tie
 use Rattle.program_exports.proofs.Told.{merge-told}
 use borrow.Author.Needs.{needs}
 use Rattle.program_exports.proofs.bd_merge.Statement.{statement}
-use Rattle.program_exports.proofs.bd_merge.Tie as tie
+use Rattle.program_exports.proofs.bd_merge.Proof.Tie as tie
 
 merge-requires : tie.Need-merge-requires
 merge-requires c κs = search needs

@@ -91,7 +91,7 @@ slice-aggregate-merge-block-3 : tie.Need-slice-aggregate-merge-block-3
 slice-aggregate-merge-block-3 c = simp length-take (omega arith)
 
 merge-block-requires : tie.Need-merge-block-requires
-merge-block-requires c κs = simp length-take (omega arith)
+merge-block-requires c κs = (simp length-take (omega arith), simp length-take (omega arith), simp length-take (omega arith))
 
 returns : tie.Need-returns
 returns c = search needs

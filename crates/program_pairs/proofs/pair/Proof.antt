@@ -26,23 +26,23 @@ read-requires-3 c κs = search needs
 array-share-prefix-a : tie.Need-array-share-prefix-a
 array-share-prefix-a c = search needs
 
-slice-aggregate-judge-both : tie.Need-slice-aggregate-judge-both
-slice-aggregate-judge-both c = search front-long
+slice-aggregate-judge : tie.Need-slice-aggregate-judge
+slice-aggregate-judge c = search front-long
 
 array-share-prefix-b : tie.Need-array-share-prefix-b
 array-share-prefix-b c = search needs
 
-slice-aggregate-judge-both-2 : tie.Need-slice-aggregate-judge-both-2
-slice-aggregate-judge-both-2 c = search front-long
+slice-aggregate-judge-2 : tie.Need-slice-aggregate-judge-2
+slice-aggregate-judge-2 c = search front-long
 
 array-share-prefix-c : tie.Need-array-share-prefix-c
 array-share-prefix-c c = search needs
 
-slice-aggregate-judge-both-3 : tie.Need-slice-aggregate-judge-both-3
-slice-aggregate-judge-both-3 c = search front-long
+slice-aggregate-judge-3 : tie.Need-slice-aggregate-judge-3
+slice-aggregate-judge-3 c = search front-long
 
-judge-both-requires : tie.Need-judge-both-requires
-judge-both-requires c κs = search needs
+judge-requires : tie.Need-judge-requires
+judge-requires c κs = search needs
 
 returns : tie.Need-returns
 returns c = search needs
@@ -58,10 +58,10 @@ pair-spec =
     slice-aggregate-read-3
     read-requires-3
     array-share-prefix-a
-    slice-aggregate-judge-both
+    slice-aggregate-judge
     array-share-prefix-b
-    slice-aggregate-judge-both-2
+    slice-aggregate-judge-2
     array-share-prefix-c
-    slice-aggregate-judge-both-3
-    judge-both-requires
+    slice-aggregate-judge-3
+    judge-requires
     returns)

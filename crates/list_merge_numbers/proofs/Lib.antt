@@ -1,6 +1,0 @@
-pub mod Bad
-pub mod Steps
-pub mod Walk
-pub mod Counts
-pub mod Writes
-pub mod Answers

@@ -1,0 +1,3 @@
+pub mod keep
+pub mod merge_parts
+pub mod store

@@ -1,0 +1,41 @@
+-- Derived by tools/derive.sh of a model of `bd_merge`: what the borrow checker prints, with `Finding` for the model's array. Assumes nothing.
+use Rattle.list_findings.proofs.Finding
+use Rattle.program_exports.proofs.Numbers
+use Rattle.program_exports.proofs.Numbers.Laws
+use borrow.Fn.Kinds
+use borrow.Kind.MutSlice
+use borrow.Kind.ShrSlice
+use borrow.Kind.Value
+use borrow.Rule.Local
+use borrow.Table.Referent
+use borrow.Table.Rows
+use denote.Array
+use denote.Exit
+use denote.Struct.Declared
+use denote.Struct.Laws as Laws'
+use mathlib.Core.List
+use mathlib.Core.Path as Path'
+use mir.Syntax
+
+abbrev pub ps : List.List (Kinds.PK 3)
+ps = List._∷_ (ShrSlice.pShrS (Declared.row Finding.the-type) 0 tt) (List._∷_ (ShrSlice.pShrS (Declared.row Finding.the-type) 1 tt) (List._∷_ (MutSlice.pMutS (Referent.rtF (Referent.fInt Syntax.w32))
+    2 tt) List.[]))
+
+abbrev pub r : Kinds.RK 3
+r = Value.rVal record {
+  ty = Declared.row Numbers.the-type;
+  one = Path'.refl;
+  val = Laws'.val Numbers.the-type Laws.the-laws;
+  tells = Laws'.tells Numbers.the-type Laws.the-laws;
+  still = Laws'.still
+      Numbers.the-type Laws.the-copy Exit.yes;
+  row = Rows.whole (Declared.row Numbers.the-type);
+  rd = λ x. x;
+  mk = λ x. x;
+} λ M 𝓤 H A W. record {
+  copies = Laws'.copy Numbers.the-type Laws.the-copy 𝓤 H A W;
+  lawful = Laws'.lawful Numbers.the-type Laws.the-laws 𝓤 H A W;
+  makes = Laws'.makes Numbers.the-type Laws.the-plain 𝓤 H A;
+  in-mem = Local.mem-whole 𝓤 H A W (Declared.row Numbers.the-type);
+  of-mem = Local.whole-mem 𝓤 H A W (Declared.row Numbers.the-type);
+}

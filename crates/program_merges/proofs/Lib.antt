@@ -1,0 +1,2 @@
+-- Derived, and so is `merge_records/Proof` (tools/derive.sh).
+pub mod Shown
