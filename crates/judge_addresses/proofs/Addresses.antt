@@ -12,7 +12,7 @@ use Rattle.text_scan.specs.declared.Found.{Found}
 use Rattle.text_scan.specs.declared.Found.the-variants.{At, Nothing}
 use Rattle.text_facts.specs.Strings.{equal}
 use Rattle.judge_paths.specs.Roles.{Establishment, ContactParty, Addr, StreetAddressLine, City, State, PostalCode, Country}
-use Rattle.judge_below.specs.declared.Test.the-variants.{Any, Empty}
+use Rattle.judge_tests.specs.declared.Test.the-variants.{Any, Empty}
 use Rattle.judge_draft.specs.Drafts.{Draft, role, parent, is, said, isEmpty}
 use Rattle.judge_below.specs.Chosen.{chosen, wanted, isThe, onlyKid}
 use Rattle.judge_below.proofs.TheOne.{the-has}

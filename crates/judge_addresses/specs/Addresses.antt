@@ -6,7 +6,7 @@ use Rattle.text_scan.specs.Choice.{_or_, _and_, not}
 use Rattle.text_scan.specs.Bytes.{text}
 use Rattle.text_facts.specs.Strings.{equal}
 use Rattle.judge_paths.specs.Roles.{Establishment, ContactParty, Addr, StreetAddressLine, City, State, PostalCode, Country}
-use Rattle.judge_below.specs.declared.Test.the-variants.{Empty}
+use Rattle.judge_tests.specs.declared.Test.the-variants.{Empty}
 use Rattle.judge_draft.specs.Drafts.{Draft, parent, is, said, isEmpty}
 use Rattle.judge_below.specs.Chosen.{chosen, wanted, kids, oneHas, isThe, onlyKid}
 use Rattle.judge_organisations.specs.Organisations.{isSaid}

@@ -4,7 +4,6 @@ ghost use Rattle.text_scan.specs.Choice.{_and_};
 ghost use Rattle.judge_paths.specs.Roles.{State, PostalCode};
 ghost use Rattle.judge_draft.specs.Drafts.{draft};
 ghost use Rattle.judge_addresses.specs.Addresses.{oneSaid, linesSaid, isAddress, addressHolds, breaks24, isUsa, breaks25};
-use judge_below::Test;
 use judge_below::Wanted;
 use judge_below::is_only_kid;
 use judge_below::none;
@@ -15,6 +14,7 @@ use judge_draft::role_at;
 use judge_draft::text_is;
 use judge_organisations::is_said;
 use judge_paths::role;
+use judge_tests::Test;
 use text_scan::Found;
 
 // Whether element n has one child of this role, and that has a text.

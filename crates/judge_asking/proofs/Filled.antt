@@ -18,7 +18,8 @@ use Rattle.judge_procedures.specs.Procedures.{foundAt}
 use Rattle.judge_procedures.proofs.Elsewhere.{elsewhere}
 use Rattle.judge_answers.specs.Answers.{isBroken}
 use Rattle.judge_findings.specs.Listed.{broken, listedAt, listedFrom, listed}
-use Rattle.judge_marks.specs.Marks.{most, markOf, marksOf, ones}
+use Rattle.judge_asked.specs.Asked.{most}
+use Rattle.judge_marks.specs.Marks.{markOf, marksOf, ones}
 use Rattle.judge_marks.proofs.Told.{mark-told, ones-marked, ones-few}
 
 -- a procedure is not broken where it cannot be found

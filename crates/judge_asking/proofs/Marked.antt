@@ -18,8 +18,9 @@ use Rattle.judge_header.specs.declared.Header.{Header}
 use Rattle.judge_procedures.specs.Procedures.{numbered, demandIn, demandOf, askedAt}
 use Rattle.judge_answers.specs.Answers.{isBroken}
 use Rattle.judge_findings.specs.Listed.{broken}
-use Rattle.judge_marks.specs.Marks.{most, pushed, padded, askedRow, markBy, markOf}
-use Rattle.judge_marks.proofs.Table.{padded-length, asked-few}
+use Rattle.judge_asked.specs.Asked.{most, padded, askedRow}
+use Rattle.judge_marks.specs.Marks.{pushed, markBy, markOf}
+use Rattle.judge_asked.proofs.Table.{padded-length, asked-few}
 
 -- a place that is behind
 pub behind-none : (p m : ℕ) → p ≡ 0 → eqb m 0 ≡ eqb p 0 and eqb m 0

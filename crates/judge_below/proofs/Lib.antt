@@ -1,3 +1,3 @@
 pub mod Looking
 pub mod TheOne
-pub mod Ordered
+pub mod Decided

@@ -11,65 +11,31 @@ use lib.Dec.{eqb, ltb}
 use lib.ListN.{length, getD}
 use mir.Val.{Fits}
 use mir.Syntax.{w64}
-use Rattle.text_scan.specs.Bytes.{text}
-use Rattle.text_scan.specs.Choice.{pick, not}
+use Rattle.text_scan.specs.Choice.{pick, _and_, not}
+use Rattle.text_scan.proofs.Tests.{and-false}
 use Rattle.text_scan.specs.declared.Found.{Found}
 use Rattle.text_scan.specs.declared.Found.the-variants.{At, Nothing}
-use Rattle.text_facts.specs.Strings.{equal, beginsWith}
-use Rattle.judge_below.specs.declared.Test.{Test}
-use Rattle.judge_below.specs.declared.Test.the-variants.{Any, DunsRoot, LabelerRoot, Telephone, Mail, Agent, Import, Empty}
 use Rattle.judge_below.specs.declared.Wanted.{Wanted}
-use Rattle.judge_draft.specs.Drafts.{Draft, draft, elementCount, parent, first, after, is, attribute, said, isEmpty}
-use Rattle.judge_below.specs.Chosen.{dunsRoot, labelerRoot, agentCode, importCode, passes, ancestor, placed, wants, inside, within, chosenFrom, chosen, firstOne, onlyOne, isThe}
+use Rattle.judge_draft.specs.Below.{ancestorIn}
+use Rattle.judge_draft.specs.Searched.{within, searchedFrom, searched}
+use Rattle.judge_draft.specs.Drafts.{Draft, draft, elementCount, parent, first, after, is, isEmpty}
+use Rattle.judge_below.specs.Chosen.{ancestor, meets, chosen, firstOne, onlyOne, isThe}
+use Rattle.judge_tests.specs.Passing.{passes}
+use Rattle.judge_below.specs.Searching.{placed, chosenFrom}
 
 -- ---- an ancestor, by the branches of its loop
 module _ (d : Draft) (levels k at : ℕ) where
   pub up : (left : ℕ) → ancestor d levels k ≡ ancestor d left at → 0 < left → (p : ℕ) → p ≡ parent d at → ancestor d levels k ≡ ancestor d (left - 1) p
-  unfolding ancestor
+  unfolding ancestorIn
   up zero l h p q = absurd (omega arith)
   up (suc left) l h p q =
       let z : suc left - 1 ≡ left = omega arith in
       l ∙ rw (z, ← q)
 
   pub here : (left : ℕ) → ancestor d levels k ≡ ancestor d left at → left ≤ 0 → at ≡ ancestor d levels k
-  unfolding ancestor
+  unfolding ancestorIn
   here zero l h = sym l
   here (suc left) l h = absurd (omega arith)
-
--- ---- a test
-module _ (d : Draft) (k : ℕ) (w : Test) where
-  pub passes-any : w ≡ Any → true ≡ passes d w k
-  unfolding passes
-  passes-any g = rw g
-
-  module _ (r : Bool) where
-    pub passes-duns : w ≡ DunsRoot → r ≡ equal (attribute d k (text "root")) dunsRoot → r ≡ passes d w k
-    unfolding passes
-    passes-duns g e = e ∙ rw g
-
-    pub passes-labeler : w ≡ LabelerRoot → r ≡ equal (attribute d k (text "root")) labelerRoot → r ≡ passes d w k
-    unfolding passes
-    passes-labeler g e = e ∙ rw g
-
-    pub passes-telephone : w ≡ Telephone → r ≡ beginsWith (text "tel:") (attribute d k (text "value")) → r ≡ passes d w k
-    unfolding passes
-    passes-telephone g e = e ∙ rw g
-
-    pub passes-mail : w ≡ Mail → r ≡ beginsWith (text "mailto:") (attribute d k (text "value")) → r ≡ passes d w k
-    unfolding passes
-    passes-mail g e = e ∙ rw g
-
-    pub passes-agent : w ≡ Agent → r ≡ equal (attribute d k (text "code")) agentCode → r ≡ passes d w k
-    unfolding passes
-    passes-agent g e = e ∙ rw g
-
-    pub passes-import : w ≡ Import → r ≡ equal (attribute d k (text "code")) importCode → r ≡ passes d w k
-    unfolding passes
-    passes-import g e = e ∙ rw g
-
-    pub passes-empty : w ≡ Empty → r ≡ isEmpty (said d k) → r ≡ passes d w k
-    unfolding passes
-    passes-empty g e = e ∙ rw g
 
 -- ---- whether an element is looked for
 module _ (d : Draft) (w : Wanted) (n k : ℕ) where
@@ -84,8 +50,14 @@ module _ (d : Draft) (w : Wanted) (n k : ℕ) where
 
 -- ---- the list from one number to the next
 module _ (d : Draft) (w : Wanted) (n : ℕ) where
-  step : (k m : ℕ) → elementCount d - k ≡ suc m → chosenFrom d w n k ≡ pick (inside d n k) (pick (wants d w n k) (k ∷ within d w n (k + 1) m) (within d w n (k + 1) m)) []
-  unfolding chosenFrom within
+  abbrev wants : ℕ → Bool
+  wants k = eqb (ancestor d (w .levels) k) n and meets d w k
+
+  abbrev rest : ℕ → ℕ → List ℕ
+  rest k m = within (d .notes) (w .levels) (meets d w) n k m
+
+  step : (k m : ℕ) → elementCount d - k ≡ suc m → chosenFrom d w n k ≡ pick (ltb (first d k) (after d n)) (pick (wants k) (k ∷ rest (k + 1) m) (rest (k + 1) m)) []
+  unfolding chosenFrom searchedFrom within
   step k m e = rw e
 
   module _ (k : ℕ) (h : k < elementCount d) where
@@ -99,16 +71,16 @@ module _ (d : Draft) (w : Wanted) (n : ℕ) where
     is-over g = step k (elementCount d - (k + 1)) left ∙ rw (le-ltb (first d k) (after d n) g)
 
     module _ (i : first d k < after d n) where
-      is-next : wants d w n k ≡ true → chosenFrom d w n k ≡ k ∷ chosenFrom d w n (k + 1)
-      unfolding chosenFrom
+      is-next : wants k ≡ true → chosenFrom d w n k ≡ k ∷ chosenFrom d w n (k + 1)
+      unfolding chosenFrom searchedFrom
       is-next f = step k (elementCount d - (k + 1)) left ∙ rw (lt-ltb (first d k) (after d n) i, f)
 
-      is-later : wants d w n k ≡ false → chosenFrom d w n k ≡ chosenFrom d w n (k + 1)
-      unfolding chosenFrom
+      is-later : wants k ≡ false → chosenFrom d w n k ≡ chosenFrom d w n (k + 1)
+      unfolding chosenFrom searchedFrom
       is-later f = step k (elementCount d - (k + 1)) left ∙ rw (lt-ltb (first d k) (after d n) i, f)
 
   no-more : (k : ℕ) → elementCount d ≤ k → chosenFrom d w n k ≡ []
-  unfolding chosenFrom within
+  unfolding chosenFrom searchedFrom within
   no-more k h =
       let e : elementCount d - k ≡ 0 = omega arith in
       rw e
@@ -123,6 +95,10 @@ module _ (s notes : List ℕ) (w : Wanted) (n : ℕ) where
   unfolding draft
   its-count = refl
 
+  its-chosen : chosen (draft s notes) w n ≡ chosenFrom (draft s notes) w n (n + 1)
+  unfolding draft chosen searched chosenFrom
+  its-chosen = refl
+
   module _ (from k : ℕ) (l : Next (draft s notes) w n from k) where
     pub next-ends : length notes / 4 ≤ k → Nothing ≡ firstOne (chosenFrom (draft s notes) w n from)
     next-ends h = sym (l ∙ rw (no-more (draft s notes) w n k (omega (arith, its-count))))
@@ -133,8 +109,7 @@ module _ (s notes : List ℕ) (w : Wanted) (n : ℕ) where
     pub few : found ≤ k
 
   pub counted-none : Counted 0 (n + 1)
-  unfolding chosen
-  counted-none = record { sum = omega arith; few = omega arith }
+  counted-none = record { sum = omega (arith, ap length its-chosen); few = omega arith }
 
   module _ (found k : ℕ) (l : Counted found k) where
     pub counted-ends : length notes / 4 ≤ k → found ≡ length (chosen (draft s notes) w n)
@@ -169,11 +144,11 @@ module _ (s notes : List ℕ) (w : Wanted) (n : ℕ) where
     module _ (y : ℕ) (f : y ≡ w .role) where
       module _ (k : ℕ) where
         other-role : (getD notes (4 * k) 0 ≡ y → ⊥) → wants (draft s notes) w n k ≡ false
-        unfolding draft wants is
-        other-role i = rw (← f, ne-eqb (getD notes (4 * k) 0) y i)
+        unfolding draft is
+        other-role i = rw (← f, ne-eqb (getD notes (4 * k) 0) y i) (and-false (eqb (ancestor (draft s notes) (w .levels) k) n))
 
         its-role : getD notes (4 * k) 0 ≡ y → wants (draft s notes) w n k ≡ placed (draft s notes) w n k
-        unfolding draft wants is
+        unfolding draft is placed
         its-role i = rw (← f, eq-eqb (getD notes (4 * k) 0) y i)
 
       module _ (from k : ℕ) (l : Next (draft s notes) w n from k) (h : k < length notes / 4) (g : getD notes (4 * k + 2) 0 < end) where
@@ -203,8 +178,7 @@ module _ (s notes : List ℕ) (w : Wanted) (n : ℕ) where
 
   -- ---- past the end of the table there is none
   empty-past : length notes ≤ n → chosen (draft s notes) w n ≡ []
-  unfolding chosen
-  empty-past h = no-more (draft s notes) w n (n + 1) (omega (arith, its-count))
+  empty-past h = its-chosen ∙ no-more (draft s notes) w n (n + 1) (omega (arith, its-count))
 
   pub only-past : length notes ≤ n → Nothing ≡ onlyOne (chosen (draft s notes) w n)
   only-past h = rw (empty-past h)
@@ -234,12 +208,12 @@ module _ (d : Draft) (w : Wanted) (n : ℕ) where
   nothing-first : {A : Type 0} (r : ℕ) → Nothing ≡ At r → A
   nothing-first r e = absurd (let z : _≡_ {A = ℕ} 0 1 = cc in omega arith)
 
-  first-one : (m k r : ℕ) → k + m ≡ elementCount d → firstOne (within d w n k m) ≡ At r → First r (within d w n k m)
-  unfolding within chosenFrom
+  first-one : (m k r : ℕ) → k + m ≡ elementCount d → firstOne (rest d w n k m) ≡ At r → First r (rest d w n k m)
+  unfolding within chosenFrom searchedFrom
   first-one zero k r h e = nothing-first r e
-  first-one (suc m) k r h e = go (inside d n k) (wants d w n k) e (first-one m (k + 1) r (omega arith))
+  first-one (suc m) k r h e = go (ltb (first d k) (after d n)) (wants d w n k) e (first-one m (k + 1) r (omega arith))
     where
-      go : (i t : Bool) → firstOne (pick i (pick t (k ∷ within d w n (k + 1) m) (within d w n (k + 1) m)) []) ≡ At r → (firstOne (within d w n (k + 1) m) ≡ At r → First r (within d w n (k + 1) m)) → First r (pick i (pick t (k ∷ within d w n (k + 1) m) (within d w n (k + 1) m)) [])
+      go : (i t : Bool) → firstOne (pick i (pick t (k ∷ rest d w n (k + 1) m) (rest d w n (k + 1) m)) []) ≡ At r → (firstOne (rest d w n (k + 1) m) ≡ At r → First r (rest d w n (k + 1) m)) → First r (pick i (pick t (k ∷ rest d w n (k + 1) m) (rest d w n (k + 1) m)) [])
       go true true e f =
           let q : k ≡ r = cc in
           let a : m ≡ elementCount d - (r + 1) = omega arith in
@@ -248,35 +222,40 @@ module _ (d : Draft) (w : Wanted) (n : ℕ) where
       go false t e f = nothing-first r e
 
   at-first : (i k : ℕ) → firstOne (chosenFrom d w n i) ≡ At k → First k (chosenFrom d w n i)
-  unfolding chosenFrom
+  unfolding chosenFrom searchedFrom
   at-first i k e = go (ltb i (elementCount d)) refl
     where
-      go : (t : Bool) → ltb i (elementCount d) ≡ t → First k (within d w n i (elementCount d - i))
+      go : (t : Bool) → ltb i (elementCount d) ≡ t → First k (rest d w n i (elementCount d - i))
       go true q = first-one (elementCount d - i) i k (omega (arith, ltb-true i (elementCount d) q)) e
       go false q = nothing-first k (sym (ap firstOne (no-more d w n i (ltb-false i (elementCount d) q))) ∙ e)
 
-  module _ (x : Found) (f : x ≡ firstOne (chosenFrom d w n (n + 1))) where
-    pub only-none : x ≡ Nothing → Nothing ≡ onlyOne (chosen d w n)
-    unfolding chosen
-    only-none e = rw (none-first (n + 1) (sym f ∙ e))
+module _ (s notes : List ℕ) (w : Wanted) (n : ℕ) where
+  abbrev its : Draft
+  its = draft s notes
 
-    pub none-below : x ≡ Nothing → true ≡ isEmpty (chosen d w n)
-    unfolding chosen
-    none-below e = rw (none-first (n + 1) (sym f ∙ e))
+  module _ (x : Found) (f : x ≡ firstOne (chosenFrom its w n (n + 1))) where
+    all-none : x ≡ Nothing → chosen its w n ≡ []
+    all-none e = its-chosen s notes w n ∙ none-first its w n (n + 1) (sym f ∙ e)
+
+    all-first : (k : ℕ) → x ≡ At k → chosen its w n ≡ k ∷ chosenFrom its w n (k + 1)
+    all-first k e = its-chosen s notes w n ∙ at-first its w n (n + 1) k (sym f ∙ e) .1
+
+    pub only-none : x ≡ Nothing → Nothing ≡ onlyOne (chosen its w n)
+    only-none e = rw (all-none e)
+
+    pub none-below : x ≡ Nothing → true ≡ isEmpty (chosen its w n)
+    none-below e = rw (all-none e)
 
     module _ (k : ℕ) (e : x ≡ At k) where
-      pub some-below : false ≡ isEmpty (chosen d w n)
-      unfolding chosen
-      some-below = rw (at-first (n + 1) k (sym f ∙ e) .1, not-empty k (chosenFrom d w n (k + 1)))
+      pub some-below : false ≡ isEmpty (chosen its w n)
+      some-below = rw (all-first k e, not-empty k (chosenFrom its w n (k + 1)))
 
-      module _ (y : Found) (g : y ≡ firstOne (chosenFrom d w n (k + 1))) where
-        pub only-is : y ≡ Nothing → At k ≡ onlyOne (chosen d w n)
-        unfolding chosen
-        only-is h = rw (at-first (n + 1) k (sym f ∙ e) .1, none-first (k + 1) (sym g ∙ h))
+      module _ (y : Found) (g : y ≡ firstOne (chosenFrom its w n (k + 1))) where
+        pub only-is : y ≡ Nothing → At k ≡ onlyOne (chosen its w n)
+        only-is h = rw (all-first k e, none-first its w n (k + 1) (sym g ∙ h))
 
-        pub only-more : (j : ℕ) → y ≡ At j → Nothing ≡ onlyOne (chosen d w n)
-        unfolding chosen
-        only-more j h = rw (at-first (n + 1) k (sym f ∙ e) .1, at-first (k + 1) j (sym g ∙ h) .1)
+        pub only-more : (j : ℕ) → y ≡ At j → Nothing ≡ onlyOne (chosen its w n)
+        only-more j h = rw (all-first k e, at-first its w n (k + 1) j (sym g ∙ h) .1)
 
 -- ---- an element that may be the only one
 -- of a list with a first one, it is that one or none
@@ -292,44 +271,45 @@ module _ (d : Draft) (w : Wanted) (n k : ℕ) where
     pub followed : (j : ℕ) → y ≡ At j → true ≡ not (isEmpty (chosenFrom d w n (k + 1)))
     followed j h = rw (at-first d w n (k + 1) j (sym g ∙ h) .1, not-empty j (chosenFrom d w n (j + 1)))
 
-  module _ (a : Bool) (g : a ≡ not (isEmpty (chosenFrom d w n (k + 1)))) where
+module _ (s notes : List ℕ) (w : Wanted) (n k : ℕ) where
+  abbrev theirs : Draft
+  theirs = draft s notes
+
+  module _ (a : Bool) (g : a ≡ not (isEmpty (chosenFrom theirs w n (k + 1)))) where
     -- where the first one is k, those behind k are the rest
-    pub more-behind : a ≡ true → false ≡ isThe (onlyOne (chosen d w n)) k
-    unfolding chosen
-    more-behind h = go (firstOne (chosenFrom d w n (n + 1))) refl
+    pub more-behind : a ≡ true → false ≡ isThe (onlyOne (chosen theirs w n)) k
+    more-behind h = rw (its-chosen s notes w n) (go (firstOne (chosenFrom theirs w n (n + 1))) refl)
       where
-        go : (x : Found) → firstOne (chosenFrom d w n (n + 1)) ≡ x → false ≡ isThe (onlyOne (chosenFrom d w n (n + 1))) k
-        go Nothing e = rw (none-first d w n (n + 1) e)
-        go (At r) e = rw (at-first d w n (n + 1) r e .1) (at (eqb r k) refl)
+        go : (x : Found) → firstOne (chosenFrom theirs w n (n + 1)) ≡ x → false ≡ isThe (onlyOne (chosenFrom theirs w n (n + 1))) k
+        go Nothing e = rw (none-first theirs w n (n + 1) e)
+        go (At r) e = rw (at-first theirs w n (n + 1) r e .1) (at (eqb r k) refl)
           where
-            at : (b : Bool) → eqb r k ≡ b → false ≡ isThe (onlyOne (r ∷ chosenFrom d w n (r + 1))) k
-            at true q = rw (eqb-true r k q) (some (chosenFrom d w n (k + 1)) (sym g ∙ h))
+            at : (b : Bool) → eqb r k ≡ b → false ≡ isThe (onlyOne (r ∷ chosenFrom theirs w n (r + 1))) k
+            at true q = rw (eqb-true r k q) (some (chosenFrom theirs w n (k + 1)) (sym g ∙ h))
               where
                 some : (l : List ℕ) → not (isEmpty l) ≡ true → false ≡ isThe (onlyOne (k ∷ l)) k
                 some [] z =
                     let y : false ≡ true = z in
                     absurd (let u : _≡_ {A = ℕ} 0 1 = cc in omega arith)
                 some (x ∷ l) z = refl
-            at false q = the-first r k (chosenFrom d w n (r + 1)) (eqb-false r k q)
+            at false q = the-first r k (chosenFrom theirs w n (r + 1)) (eqb-false r k q)
 
-    module _ (h : a ≡ false) (x : Found) (f : x ≡ firstOne (chosenFrom d w n (n + 1))) where
-      pub none-at-all : x ≡ Nothing → false ≡ isThe (onlyOne (chosen d w n)) k
-      unfolding chosen
-      none-at-all e = rw (none-first d w n (n + 1) (sym f ∙ e))
+    module _ (h : a ≡ false) (x : Found) (f : x ≡ firstOne (chosenFrom theirs w n (n + 1))) where
+      pub none-at-all : x ≡ Nothing → false ≡ isThe (onlyOne (chosen theirs w n)) k
+      none-at-all e = rw (all-none s notes w n x f e)
 
-      pub first-of-all : (r : ℕ) → x ≡ At r → eqb r k ≡ isThe (onlyOne (chosen d w n)) k
-      unfolding chosen
-      first-of-all r e = rw (at-first d w n (n + 1) r (sym f ∙ e) .1) (at (eqb r k) refl)
+      pub first-of-all : (r : ℕ) → x ≡ At r → eqb r k ≡ isThe (onlyOne (chosen theirs w n)) k
+      first-of-all r e = rw (all-first s notes w n x f r e) (at (eqb r k) refl)
         where
-          at : (b : Bool) → eqb r k ≡ b → eqb r k ≡ isThe (onlyOne (r ∷ chosenFrom d w n (r + 1))) k
-          at true q = rw (eqb-true r k q) (none (chosenFrom d w n (k + 1)) (sym g ∙ h))
+          at : (b : Bool) → eqb r k ≡ b → eqb r k ≡ isThe (onlyOne (r ∷ chosenFrom theirs w n (r + 1))) k
+          at true q = rw (eqb-true r k q) (none (chosenFrom theirs w n (k + 1)) (sym g ∙ h))
             where
               none : (l : List ℕ) → not (isEmpty l) ≡ false → eqb k k ≡ isThe (onlyOne (k ∷ l)) k
               none [] z = refl
               none (x ∷ l) z =
                   let y : true ≡ false = sym (ap not (not-empty x l)) ∙ z in
                   absurd (let u : _≡_ {A = ℕ} 0 1 = cc in omega arith)
-          at false q = q ∙ the-first r k (chosenFrom d w n (r + 1)) (eqb-false r k q)
+          at false q = q ∙ the-first r k (chosenFrom theirs w n (r + 1)) (eqb-false r k q)
 
 module _ (s notes : List ℕ) (w : Wanted) (n k : ℕ) where
   pub holder-past : length notes ≤ n → false ≡ isThe (onlyOne (chosen (draft s notes) w n)) k

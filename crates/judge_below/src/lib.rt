@@ -4,25 +4,13 @@ ghost use Prim.Native.Nat.{_+_};
 ghost use lib.ListN.{length};
 ghost use Rattle.text_scan.specs.Choice.{not};
 ghost use Rattle.judge_draft.specs.Drafts.{draft, isEmpty};
-ghost use Rattle.judge_below.specs.Chosen.{passes, ancestor, placed, chosenFrom, chosen, firstOne, onlyOne, isThe, onlyKid};
-use judge_draft::attribute_begins;
-use judge_draft::attribute_is;
+ghost use Rattle.judge_below.specs.Chosen.{ancestor, chosen, firstOne, onlyOne, isThe, onlyKid};
+ghost use Rattle.judge_below.specs.Searching.{placed, chosenFrom};
 use judge_draft::byte_after;
 use judge_draft::parent;
-use judge_draft::text_is_empty;
+use judge_tests::Test;
+use judge_tests::is_passed;
 use text_scan::Found;
-
-// What an element that is looked for passes: anything, the root of its id, the start of its telecom value, its operation code, no text.
-pub enum Test {
-    Any,
-    DunsRoot,
-    LabelerRoot,
-    Telephone,
-    Mail,
-    Agent,
-    Import,
-    Empty,
-}
 
 // What is looked for below an element: the elements of a role, so many levels below it, that pass a test.
 pub struct Wanted {
@@ -42,22 +30,6 @@ pub fn ancestor(document: &[u8], notes: &[u32], levels: usize, k: usize) -> usiz
         left -= 1;
     }
     at
-}
-
-// Whether element k passes the test.
-fn is_passed(document: &[u8], notes: &[u32], test: Test, k: usize) -> bool
-    ensures { λ r. ⌜ r ≡ passes (draft (now (document .entry)) (now (notes .entry))) test k ⌝ }
-{
-    match test {
-        Test::Any => true,
-        Test::DunsRoot => attribute_is(document, notes, k, b"root", b"1.3.6.1.4.1.519.1"),
-        Test::LabelerRoot => attribute_is(document, notes, k, b"root", b"2.16.840.1.113883.6.69"),
-        Test::Telephone => attribute_begins(document, notes, k, b"value", b"tel:"),
-        Test::Mail => attribute_begins(document, notes, k, b"value", b"mailto:"),
-        Test::Agent => attribute_is(document, notes, k, b"code", b"C73330"),
-        Test::Import => attribute_is(document, notes, k, b"code", b"C73599"),
-        Test::Empty => text_is_empty(document, notes, k),
-    }
 }
 
 // Whether element k stands so many levels below n, and passes the test.

@@ -23,6 +23,7 @@ use Rattle.xml_elements.specs.declared.Answer.{Answer as Reading}
 use Rattle.xml_elements.specs.declared.Answer.the-variants.{Elements, Refused as NotRead}
 use Rattle.xml_steps.specs.Reading.{Read, refused, elements}
 use Rattle.xml_elements.specs.Elements.{elementsOf, ElementsLeft as Reads}
+use Rattle.xml_nesting.specs.Nested.{Nested}
 use Rattle.xml_nesting.proofs.Read.{Rows, rows-read}
 use Rattle.judge_findings.specs.Listed.{findingsOf}
 use Rattle.judge_findings.specs.declared.Answer.{Answer}
@@ -111,6 +112,11 @@ module _ (s table : List ℕ) (a : Reading) (after : List ℕ) (l : Reads (eleme
     front =
         let e : 4 * count - 0 ≡ length (its .rows) = omega (arith, its-rows .wide) in
         rw e (ap (take (length (its .rows))) (its .now-is) ∙ take-append-seam (its .rows) (drop (4 * count) table))
+
+    pub under-nested : Nested (take (4 * count - 0) after) (length (take (4 * count - 0) after) / 4)
+    under-nested =
+        let e : length (its .rows) / 4 ≡ count = omega (arith, its-rows .wide) in
+        rw (front, e) (its-rows .ordered)
 
     pub under-few : length (take (4 * count - 0) after) / 4 ≤ elementsLimit
     under-few = omega (arith, ap length front, its-rows .wide, its-rows .few)

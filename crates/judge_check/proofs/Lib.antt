@@ -1,3 +1,4 @@
 pub mod Values
 pub mod Chain
 pub mod Accepted
+pub mod Decided

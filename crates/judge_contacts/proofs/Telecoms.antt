@@ -12,7 +12,7 @@ use Rattle.text_scan.specs.Choice.{not}
 use Rattle.text_scan.specs.Bytes.{text}
 use Rattle.text_telephones.specs.Telephones.{isTelephone}
 use Rattle.judge_paths.specs.Roles.{Agent, ContactParty, Telecom}
-use Rattle.judge_below.specs.declared.Test.the-variants.{Any, Telephone, Mail}
+use Rattle.judge_tests.specs.declared.Test.the-variants.{Any, Telephone, Mail}
 use Rattle.judge_draft.specs.Drafts.{Draft, role, is, attribute, isEmpty, valueBegins}
 use Rattle.judge_below.specs.Chosen.{chosen, wanted}
 use Rattle.judge_contacts.specs.Contacts.{hasTelecoms, breaks26, breaks27, breaks28, breaks29}

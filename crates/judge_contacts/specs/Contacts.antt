@@ -8,7 +8,7 @@ use Rattle.text_scan.specs.Choice.{_or_, _and_, not}
 use Rattle.text_scan.specs.Bytes.{text}
 use Rattle.text_telephones.specs.Telephones.{isTelephone}
 use Rattle.judge_paths.specs.Roles.{Registrant, Establishment, Agent, ContactParty, ContactPerson, PersonName, Telecom, RequestLabeler}
-use Rattle.judge_below.specs.declared.Test.the-variants.{Telephone, Mail}
+use Rattle.judge_tests.specs.declared.Test.the-variants.{Telephone, Mail}
 use Rattle.judge_draft.specs.Drafts.{Draft, parent, is, attribute, isEmpty, valueBegins}
 use Rattle.judge_below.specs.Chosen.{chosen, wanted, kids, one, oneHas, isThe, onlyKid}
 use Rattle.judge_addresses.specs.Addresses.{oneSaid}

@@ -3,7 +3,6 @@ ghost use mathlib.Core.Path.{_≡_};
 ghost use Rattle.judge_draft.specs.Drafts.{draft};
 ghost use Rattle.judge_contacts.specs.Contacts.{hasContact, breaks23, hasTelecoms, breaks26, breaks27, breaks28, breaks29, personHolds, breaks30};
 use judge_addresses::one_said;
-use judge_below::Test;
 use judge_below::Wanted;
 use judge_below::how_many;
 use judge_below::is_only_kid;
@@ -17,6 +16,7 @@ use judge_draft::parent;
 use judge_draft::role_at;
 use judge_organisations::has_one;
 use judge_paths::role;
+use judge_tests::Test;
 use text_scan::Found;
 
 // Whether 23 and 30 judge element n.

@@ -4,6 +4,7 @@ use mathlib.Core.Path.{_≡_, refl, _∙_, ap, subst}
 use mathlib.Core.List.{List}
 use Prim.Native.Nat.{ℕ, _-_, _*_, _/_, _≤_}
 use lib.ListN.{length, take}
+use Rattle.xml_nesting.specs.Nested.{Nested}
 use Rattle.table_file.specs.Accepted.{Tables}
 use Rattle.judge_input.specs.declared.Sections.{Sections}
 use Rattle.judge_input.specs.Input.{sectionTables}
@@ -20,8 +21,8 @@ use Rattle.judge_type.proofs.Drafted.{draft-is}
 use Rattle.judge_document.specs.Typed.{placesFor}
 
 -- ---- by its notes
-pub typed-left : (s rows : List ℕ) (t : DocumentType) (old : List ℕ) → 4 * (length rows / 4) ≤ length old → (notes : List ℕ) → notes ≡ noted s rows t old → (u : Tables) (list : List ℕ) (r : Answer) (after : List ℕ) → FindingsLeft (findingsOf (draft s (take (4 * (length rows / 4) - 0) notes)) u) list r after → FindingsLeft (findingsOf (draftAs t s rows) u) list r after
-typed-left s rows t old room notes e u list r after f = subst (λ d. FindingsLeft (findingsOf d u) list r after) (draft-is s rows t old room notes e) f
+pub typed-left : (s rows : List ℕ) → Nested rows (length rows / 4) → (t : DocumentType) (old : List ℕ) → 4 * (length rows / 4) ≤ length old → (notes : List ℕ) → notes ≡ noted s rows t old → (u : Tables) (list : List ℕ) (r : Answer) (after : List ℕ) → FindingsLeft (findingsOf (draft s (take (4 * (length rows / 4) - 0) notes)) u) list r after → FindingsLeft (findingsOf (draftAs t s rows) u) list r after
+typed-left s rows o t old room notes e u list r after f = subst (λ d. FindingsLeft (findingsOf d u) list r after) (draft-is s rows t o old room notes e) f
 
 -- ---- by its type, which changes no row
 same-tables : (s : List ℕ) (x : Sections) (t : DocumentType) → tablesAt s (placesFor x t) ≡ sectionTables s x

@@ -3,6 +3,7 @@ ghost use mathlib.Core.Path.{_≡_};
 ghost use Prim.Native.Nat.{_*_, _/_, _≤_};
 ghost use lib.ListN.{length};
 ghost use Rattle.xml_reader.specs.Limits.{elementsLimit};
+ghost use Rattle.xml_nesting.specs.Nested.{Nested};
 ghost use Rattle.judge_answers.specs.Answers.{tablesAt};
 ghost use Rattle.judge_findings.specs.Listed.{findingsOf};
 ghost use Rattle.judge_findings.specs.Room.{FindingsLeft};
@@ -28,7 +29,7 @@ fn judge_typed(
     marks: &mut [u64],
     list: &mut [u32],
 ) -> Answer
-    requires { ⌜ (4 * (length (now elements) / 4) ≤ length (now notes)) × (length (now elements) / 4 ≤ length (now marks)) × (length (now marks) ≤ elementsLimit) ⌝ }
+    requires { ⌜ Nested (now elements) (length (now elements) / 4) × (4 * (length (now elements) / 4) ≤ length (now notes)) × (length (now elements) / 4 ≤ length (now marks)) × (length (now marks) ≤ elementsLimit) ⌝ }
     ensures { λ r. ⌜ FindingsLeft (findingsOf (draftAs (places .kind) (now (document .entry)) (now (elements .entry))) (tablesAt (now (tables .entry)) places)) (now (list .entry)) r (now (list .exit)) ⌝ }
 {
     let kind = places.kind;
@@ -65,7 +66,7 @@ fn judge_within(
     marks: &mut [u64],
     list: &mut [u32],
 ) -> Answer
-    requires { ⌜ (4 * (length (now elements) / 4) ≤ length (now notes)) × (length (now elements) / 4 ≤ length (now marks)) × (length (now marks) ≤ elementsLimit) ⌝ }
+    requires { ⌜ Nested (now elements) (length (now elements) / 4) × (4 * (length (now elements) / 4) ≤ length (now notes)) × (length (now elements) / 4 ≤ length (now marks)) × (length (now marks) ≤ elementsLimit) ⌝ }
     ensures { λ r. ⌜ FindingsLeft (findingsOf (draftOf (now (document .entry)) (now (elements .entry))) (sectionTables (now (tables .entry)) sections)) (now (list .entry)) r (now (list .exit)) ⌝ }
 {
     let kind = judge_type::type_in(document, elements, notes);
@@ -88,7 +89,7 @@ fn judge_small(
     sections: Sections,
     list: &mut [u32],
 ) -> Answer
-    requires { ⌜ length (now elements) / 4 ≤ few ⌝ }
+    requires { ⌜ Nested (now elements) (length (now elements) / 4) × (length (now elements) / 4 ≤ few) ⌝ }
     ensures { λ r. ⌜ FindingsLeft (findingsOf (draftOf (now (document .entry)) (now (elements .entry))) (sectionTables (now (tables .entry)) sections)) (now (list .entry)) r (now (list .exit)) ⌝ }
 {
     let mut notes = [0u32; 4 * FEW];
@@ -112,7 +113,7 @@ fn judge_large(
     sections: Sections,
     list: &mut [u32],
 ) -> Answer
-    requires { ⌜ length (now elements) / 4 ≤ elementsLimit ⌝ }
+    requires { ⌜ Nested (now elements) (length (now elements) / 4) × (length (now elements) / 4 ≤ elementsLimit) ⌝ }
     ensures { λ r. ⌜ FindingsLeft (findingsOf (draftOf (now (document .entry)) (now (elements .entry))) (sectionTables (now (tables .entry)) sections)) (now (list .entry)) r (now (list .exit)) ⌝ }
 {
     let mut notes = [0u32; 4 * Reader::ELEMENTS];
@@ -136,7 +137,7 @@ pub fn judge(
     sections: Sections,
     list: &mut [u32],
 ) -> Answer
-    requires { ⌜ length (now elements) / 4 ≤ elementsLimit ⌝ }
+    requires { ⌜ Nested (now elements) (length (now elements) / 4) × (length (now elements) / 4 ≤ elementsLimit) ⌝ }
     ensures { λ r. ⌜ FindingsLeft (findingsOf (draftOf (now (document .entry)) (now (elements .entry))) (sectionTables (now (tables .entry)) sections)) (now (list .entry)) r (now (list .exit)) ⌝ }
 {
     if elements.len() / 4 <= FEW {

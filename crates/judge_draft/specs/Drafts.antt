@@ -12,14 +12,24 @@ use Rattle.xml_steps.specs.Reading.{parentOf, firstOf, afterOf}
 use Rattle.xml_values.specs.Attributes.{attributeOf}
 use Rattle.xml_texts.specs.Texts.{textOf}
 use Rattle.judge_paths.specs.Roles.{isKnownRole}
+use Rattle.judge_draft.specs.Below.{allBelow}
+use Rattle.judge_draft.specs.Searched.{searched}
 
--- the document, and its notes: for each element its role, its parent, its first byte and the byte after its end
+-- the document; its notes: for each element its role, its parent, its first byte and the byte after its end; and the elements so many levels below
+-- an element that have a property, in document order
 pub record Draft : Type 0 where
   pub bytes : List ℕ
   pub notes : List ℕ
+  pub below : ℕ → (ℕ → Bool) → ℕ → List ℕ
 
+-- of a document with these notes: below an element is all that stands there
+unfoldable pub fullDraft : List ℕ → List ℕ → Draft
+fullDraft bytes notes = record { bytes = bytes; notes = notes; below = allBelow notes }
+
+-- as the code has it, which looks for what stands below an element. Where the notes are in document order it is the full draft
+-- (law `draft-full`, `judge_type/proofs/Ordered`)
 unfoldable pub draft : List ℕ → List ℕ → Draft
-draft bytes notes = record { bytes = bytes; notes = notes }
+draft bytes notes = record { bytes = bytes; notes = notes; below = searched notes }
 
 -- the number of elements
 abbrev pub elementCount : Draft → ℕ

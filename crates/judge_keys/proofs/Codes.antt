@@ -11,10 +11,11 @@ use Rattle.text_scan.specs.declared.Found.{Found}
 use Rattle.text_scan.specs.declared.Found.the-variants.{At, Nothing}
 use Rattle.text_facts.specs.Strings.{isLabelerCode}
 use Rattle.judge_paths.specs.Roles.{Registrant, OrganisationId, RequestLabeler}
-use Rattle.judge_draft.specs.Drafts.{Draft, parent, is, attribute, attributeIs}
-use Rattle.judge_below.specs.declared.Test.{Test}
-use Rattle.judge_below.specs.declared.Test.the-variants.{DunsRoot, LabelerRoot}
-use Rattle.judge_below.specs.Chosen.{dunsRoot, labelerRoot, passes, chosen, wanted, onlyOne, oneHas, isThe}
+use Rattle.judge_draft.specs.Drafts.{Draft, draft, parent, is, attribute, attributeIs}
+use Rattle.judge_tests.specs.declared.Test.{Test}
+use Rattle.judge_tests.specs.declared.Test.the-variants.{DunsRoot, LabelerRoot}
+use Rattle.judge_tests.specs.Passing.{dunsRoot, labelerRoot, passes}
+use Rattle.judge_below.specs.Chosen.{chosen, wanted, onlyOne, oneHas, isThe}
 use Rattle.judge_below.proofs.TheOne.{the-has, its-test}
 use Rattle.judge_organisations.specs.Organisations.{hasExtension, dunsId, dunsHolds}
 use Rattle.judge_keys.specs.Keys.{labelerId, labelerHolds, breaks19, isLabelerId, isRegistrantId, breaks20}
@@ -70,7 +71,10 @@ module _ (d : Draft) (root : Test) (n p : ℕ) (e : p ≡ parent d n) (a : Bool)
   not-only-id g = rw (← e, ← f, g)
 
 -- where the id with the root has an extension and is n: n has the root, is the only one, and has an extension
-module _ (d : Draft) (organisation : ℕ) (test : Test) (n : ℕ) where
+module _ (s notes : List ℕ) (organisation : ℕ) (test : Test) (n : ℕ) where
+  abbrev d : Draft
+  d = draft s notes
+
   abbrev KeyOf : Bool
   KeyOf =
       is d OrganisationId n and is d organisation (parent d n) and oneHas (Only d test n) (hasExtension d) and isThe (Only d test n) n
@@ -79,7 +83,7 @@ module _ (d : Draft) (organisation : ℕ) (test : Test) (n : ℕ) where
   own-root = go (isThe (Only d test n) n) refl
     where
       go : (t : Bool) → isThe (Only d test n) n ≡ t → t and hasExtension d n ≡ passes d test n and t and hasExtension d n
-      go true e = rw (its-test d (wanted OrganisationId 1 test) (parent d n) n e)
+      go true e = rw (its-test s notes (wanted OrganisationId 1 test) (parent d n) n e)
       go false e = sym (and-false (passes d test n))
 
   key-by-root : KeyOf ≡ is d OrganisationId n and is d organisation (parent d n) and passes d test n and isThe (Only d test n) n and hasExtension d n
@@ -104,24 +108,27 @@ module _ (d : Draft) (organisation : ℕ) (test : Test) (n : ℕ) where
   key-not-there : is d OrganisationId n and is d organisation (parent d n) and passes d test n ≡ false → false ≡ KeyOf
   key-not-there e = and-none (is d OrganisationId n) (is d organisation (parent d n)) (passes d test n) (isThe (Only d test n) n and hasExtension d n) e ∙ sym key-by-root
 
-module _ (d : Draft) (n : ℕ) (a : Bool) where
-  module _ (e : a ≡ IdOf d RequestLabeler labelerRoot n) where
-    pub labeler-id-there : a ≡ true → (r : Bool) → r ≡ isThe (Only d LabelerRoot n) n and hasExtension d n → r ≡ isLabelerId d n
+module _ (s notes : List ℕ) (n : ℕ) (a : Bool) where
+  abbrev its : Draft
+  its = draft s notes
+
+  module _ (e : a ≡ IdOf its RequestLabeler labelerRoot n) where
+    pub labeler-id-there : a ≡ true → (r : Bool) → r ≡ isThe (Only its LabelerRoot n) n and hasExtension its n → r ≡ isLabelerId its n
     unfolding isLabelerId labelerHolds labelerId passes
-    labeler-id-there f r g = g ∙ key-there d RequestLabeler LabelerRoot n (sym e ∙ f)
+    labeler-id-there f r g = g ∙ key-there s notes RequestLabeler LabelerRoot n (sym e ∙ f)
 
-    pub labeler-id-not : a ≡ false → false ≡ isLabelerId d n
+    pub labeler-id-not : a ≡ false → false ≡ isLabelerId its n
     unfolding isLabelerId labelerHolds labelerId passes
-    labeler-id-not f = key-not-there d RequestLabeler LabelerRoot n (sym e ∙ f)
+    labeler-id-not f = key-not-there s notes RequestLabeler LabelerRoot n (sym e ∙ f)
 
-  module _ (e : a ≡ IdOf d Registrant dunsRoot n) where
-    pub registrant-id-there : a ≡ true → (r : Bool) → r ≡ isThe (Only d DunsRoot n) n and hasExtension d n → r ≡ isRegistrantId d n
+  module _ (e : a ≡ IdOf its Registrant dunsRoot n) where
+    pub registrant-id-there : a ≡ true → (r : Bool) → r ≡ isThe (Only its DunsRoot n) n and hasExtension its n → r ≡ isRegistrantId its n
     unfolding isRegistrantId dunsHolds dunsId passes
-    registrant-id-there f r g = g ∙ key-there d Registrant DunsRoot n (sym e ∙ f)
+    registrant-id-there f r g = g ∙ key-there s notes Registrant DunsRoot n (sym e ∙ f)
 
-    pub registrant-id-not : a ≡ false → false ≡ isRegistrantId d n
+    pub registrant-id-not : a ≡ false → false ≡ isRegistrantId its n
     unfolding isRegistrantId dunsHolds dunsId passes
-    registrant-id-not f = key-not-there d Registrant DunsRoot n (sym e ∙ f)
+    registrant-id-not f = key-not-there s notes Registrant DunsRoot n (sym e ∙ f)
 
 -- ---- 20
 module _ (d : Draft) (n : ℕ) (a : Bool) (e : a ≡ isLabelerId d n) where

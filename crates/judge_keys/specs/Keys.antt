@@ -12,7 +12,7 @@ use Rattle.judge_draft.specs.declared.Demand.{Demand}
 use Rattle.judge_draft.specs.declared.Demand.the-variants.{NoKeyElsewhere, NoOtherKey}
 use Rattle.judge_draft.specs.Drafts.{Draft, parent, is, attribute}
 use Rattle.judge_draft.specs.Demands.{demandIf}
-use Rattle.judge_below.specs.declared.Test.the-variants.{LabelerRoot}
+use Rattle.judge_tests.specs.declared.Test.the-variants.{LabelerRoot}
 use Rattle.judge_below.specs.Chosen.{chosen, wanted, onlyOne, oneHas, the, isThe}
 use Rattle.judge_header.specs.declared.Header.{Header}
 use Rattle.judge_header.specs.Header.{setHolds}

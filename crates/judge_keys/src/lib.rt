@@ -10,7 +10,6 @@ ghost use Rattle.judge_below.specs.Chosen.{chosen, wanted, onlyOne, the, isThe}
 ghost use Rattle.judge_header.specs.Header.{setHolds};
 ghost use Rattle.judge_organisations.specs.Organisations.{hasExtension};
 ghost use Rattle.judge_keys.specs.Keys.{labelerId, labelerHolds, breaks19, isLabelerId, isRegistrantId, breaks20, demand21, demand22};
-use judge_below::Test;
 use judge_below::Wanted;
 use judge_below::is_only;
 use judge_below::only;
@@ -25,6 +24,7 @@ use judge_header::set_holds;
 use judge_organisations::has_extension;
 use judge_paths::DocumentType;
 use judge_paths::role;
+use judge_tests::Test;
 use text_scan::Found;
 
 // The one id of labeler n with the root of labeler codes.

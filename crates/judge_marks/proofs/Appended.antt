@@ -21,9 +21,10 @@ use Rattle.judge_procedures.specs.Procedures.{askedAt}
 use Rattle.judge_findings.specs.Listed.{finding}
 use Rattle.judge_findings.specs.declared.Answer.the-variants.{Findings, Refused}
 use Rattle.judge_findings.specs.Room.{answerIn, listIn, FindingsLeft}
-use Rattle.judge_marks.specs.Marks.{pushed, ones, most, marked, askedRow, markedAt, markedFrom, markedIn}
+use Rattle.judge_asked.specs.Asked.{most, askedRow}
+use Rattle.judge_marks.specs.Marks.{pushed, ones, marked, markedAt, markedFrom, markedIn}
 use Rattle.judge_marks.proofs.Told.{no-ones, nothing-marked}
-use Rattle.judge_marks.proofs.Table.{padded-length}
+use Rattle.judge_asked.proofs.Table.{padded-length}
 
 -- ---- a digit more
 pub push-one : (m : ℕ) (b : Bool) → m < 4611686018427387904 → b ≡ true → 2 * m + 1 ≡ pushed m b

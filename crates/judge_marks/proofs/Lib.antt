@@ -1,3 +1,3 @@
-pub mod Table
 pub mod Told
 pub mod Appended
+pub mod Decided

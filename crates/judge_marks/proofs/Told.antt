@@ -15,8 +15,9 @@ use Rattle.list_findings.specs.Findings.{lastProcedure}
 use Rattle.judge_draft.specs.Drafts.{Draft, role}
 use Rattle.judge_procedures.specs.Procedures.{foundAt, keep, askedFrom, askedAt}
 use Rattle.judge_findings.specs.Listed.{finding, listedAt, listedFrom}
-use Rattle.judge_marks.specs.Marks.{bit, pushed, markBy, markOf, marksOf, ones, most, marked, padded, askedRow, markedAt, markedFrom}
-use Rattle.judge_marks.proofs.Table.{asked-few, padded-length}
+use Rattle.judge_asked.specs.Asked.{most, padded, askedRow}
+use Rattle.judge_marks.specs.Marks.{bit, pushed, markBy, markOf, marksOf, ones, marked, markedAt, markedFrom}
+use Rattle.judge_asked.proofs.Table.{asked-few, padded-length}
 
 -- numbers of at most k digits are below this
 power : ℕ → ℕ

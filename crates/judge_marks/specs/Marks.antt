@@ -10,6 +10,7 @@ use Rattle.text_scan.specs.Choice.{pick}
 use Rattle.list_findings.specs.declared.Finding.{Finding}
 use Rattle.judge_draft.specs.Drafts.{Draft, draft, role}
 use Rattle.judge_procedures.specs.Procedures.{askedAt}
+use Rattle.judge_asked.specs.Asked.{askedRow}
 use Rattle.judge_findings.specs.Listed.{finding}
 
 abbrev pub bit : Bool → ℕ
@@ -39,23 +40,10 @@ unfoldable pub ones : ℕ → ℕ → ℕ
 ones zero m = 0
 ones (suc k) m = m % 2 + ones k (m / 2)
 
--- the most procedures of one role that the code has room for
-abbrev pub most : ℕ
-most = 16
-
 -- the records of element n that the digits of these procedures tell of
 unfoldable pub marked : Draft → ℕ → List ℕ → ℕ → List Finding
 marked d n [] m = []
 marked d n (p ∷ ps) m = pick (eqb (m % 2) 1) (finding d n p ∷ marked d n ps (m / 2)) (marked d n ps (m / 2))
-
--- a list of procedures, with zeros behind them up to k
-unfoldable pub padded : ℕ → List ℕ → List ℕ
-padded zero ps = []
-padded (suc k) [] = 0 ∷ padded k []
-padded (suc k) (p ∷ ps) = p ∷ padded k ps
-
-abbrev pub askedRow : ℕ → List ℕ
-askedRow r = padded most (askedAt r)
 
 unfoldable pub markedAt : Draft → ℕ → ℕ → List Finding
 markedAt d n m = marked d n (askedRow (role d n)) m

@@ -9,9 +9,10 @@ use Rattle.text_scan.specs.declared.Found.{Found}
 use Rattle.text_scan.specs.declared.Found.the-variants.{At, Nothing}
 use Rattle.judge_paths.specs.Roles.{Entity4, OperationCode}
 use Rattle.judge_draft.specs.declared.Demand.the-variants.{CodeRow, Nothing as Free}
-use Rattle.judge_below.specs.declared.Test.the-variants.{Any}
+use Rattle.judge_tests.specs.declared.Test.the-variants.{Any}
 use Rattle.judge_draft.specs.Drafts.{Draft, is, attributeIs}
-use Rattle.judge_below.specs.Chosen.{agentCode, importCode, chosen, wanted, onlyOne}
+use Rattle.judge_tests.specs.Passing.{agentCode, importCode}
+use Rattle.judge_below.specs.Chosen.{chosen, wanted, onlyOne}
 use Rattle.judge_operations.specs.Operations.{ofNci, isAgency, breaks33, demand34}
 
 -- ---- a code of the NCI system, agent or import

@@ -5,7 +5,7 @@ use mathlib.Core.Bool.{Bool, true, false}
 use Prim.Native.Nat.{ℕ}
 use Rattle.text_scan.specs.Choice.{not}
 use Rattle.judge_paths.specs.Roles.{Entity3, Establishment, OperationCode}
-use Rattle.judge_below.specs.declared.Test.the-variants.{Any}
+use Rattle.judge_tests.specs.declared.Test.the-variants.{Any}
 use Rattle.judge_draft.specs.Drafts.{Draft, is, isEmpty}
 use Rattle.judge_below.specs.Chosen.{ancestor, chosen, wanted}
 use Rattle.judge_operations.specs.Operations.{ofNci, hasEstablishment, breaks37, breaks38}

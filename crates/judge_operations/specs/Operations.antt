@@ -9,9 +9,10 @@ use Rattle.text_scan.specs.Bytes.{text}
 use Rattle.judge_paths.specs.Roles.{Entity3, Establishment, Entity4, OperationCode}
 use Rattle.judge_draft.specs.declared.Demand.{Demand}
 use Rattle.judge_draft.specs.declared.Demand.the-variants.{CodeRow}
-use Rattle.judge_below.specs.declared.Test.the-variants.{Any}
+use Rattle.judge_tests.specs.declared.Test.the-variants.{Any}
 use Rattle.judge_draft.specs.Drafts.{Draft, is, isEmpty, attributeIs}
-use Rattle.judge_below.specs.Chosen.{agentCode, importCode, ancestor, chosen, wanted, kids, onlyOne, oneHas}
+use Rattle.judge_tests.specs.Passing.{agentCode, importCode}
+use Rattle.judge_below.specs.Chosen.{ancestor, chosen, wanted, kids, onlyOne, oneHas}
 use Rattle.judge_draft.specs.Demands.{demandIf}
 
 abbrev pub operations : Draft → ℕ → List ℕ

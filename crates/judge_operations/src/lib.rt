@@ -3,7 +3,6 @@ ghost use mathlib.Core.Path.{_≡_};
 ghost use Rattle.judge_draft.specs.Drafts.{draft};
 ghost use Rattle.judge_operations.specs.Operations.{ofNci, isAgency, breaks33, demand34, hasEstablishment, breaks37, breaks38};
 ghost use Rattle.judge_operations.specs.Met.{entityAt};
-use judge_below::Test;
 use judge_below::Wanted;
 use judge_below::ancestor;
 use judge_below::none;
@@ -12,6 +11,7 @@ use judge_draft::Demand;
 use judge_draft::attribute_is;
 use judge_draft::is_role;
 use judge_paths::role;
+use judge_tests::Test;
 use text_scan::Found;
 
 // Whether code k is of the NCI system.

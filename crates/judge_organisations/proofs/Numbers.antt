@@ -12,7 +12,7 @@ use Rattle.text_scan.specs.declared.Found.{Found}
 use Rattle.text_scan.specs.declared.Found.the-variants.{At, Nothing}
 use Rattle.judge_paths.specs.Roles.{Unknown, Entity1, Labeler, Entity2, Registrant, Entity3, Establishment, Entity4, Agent, OrganisationId, RequestEntity, RequestLabeler}
 use Rattle.judge_draft.specs.Drafts.{Draft, role, is, attribute, isEmpty}
-use Rattle.judge_below.specs.declared.Test.the-variants.{Any, DunsRoot}
+use Rattle.judge_tests.specs.declared.Test.the-variants.{Any, DunsRoot}
 use Rattle.judge_below.specs.Chosen.{chosen, wanted, onlyOne, one, onlyKid}
 use Rattle.judge_organisations.specs.Organisations.{organisationIn, breaks14, isOrganisation, rightIds, breaks15, hasExtension, dunsId, dunsHolds, breaks16}
 

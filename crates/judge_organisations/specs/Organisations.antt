@@ -12,7 +12,7 @@ use Rattle.judge_draft.specs.declared.Demand.{Demand}
 use Rattle.judge_draft.specs.declared.Demand.the-variants.{NameRow}
 use Rattle.judge_draft.specs.Drafts.{Draft, role, parent, is, attribute, said, isEmpty}
 use Rattle.judge_draft.specs.Demands.{demandIf}
-use Rattle.judge_below.specs.declared.Test.the-variants.{DunsRoot}
+use Rattle.judge_tests.specs.declared.Test.the-variants.{DunsRoot}
 use Rattle.judge_below.specs.Chosen.{chosen, wanted, kids, onlyOne, one, oneHas, the, isThe, onlyKid}
 
 -- ---- 14: each assignedEntity has one organisation

@@ -5,7 +5,6 @@ ghost use Rattle.judge_draft.specs.Drafts.{draft};
 ghost use Rattle.judge_draft.specs.Demands.{demandIf};
 ghost use Rattle.judge_below.specs.Chosen.{one, the, onlyKid};
 ghost use Rattle.judge_organisations.specs.Organisations.{organisationIn, breaks14, isOrganisation, rightIds, breaks15, hasExtension, dunsId, dunsHolds, breaks16, isSaid, isOneName, breaks17, demand18};
-use judge_below::Test;
 use judge_below::Wanted;
 use judge_below::how_many;
 use judge_below::is_only_kid;
@@ -18,6 +17,7 @@ use judge_draft::parent;
 use judge_draft::role_at;
 use judge_draft::text_is_empty;
 use judge_paths::role;
+use judge_tests::Test;
 use text_scan::Found;
 
 // Whether element n has one child of this role.

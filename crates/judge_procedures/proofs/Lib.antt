@@ -1,3 +1,4 @@
 pub mod Elsewhere
 pub mod Told
 pub mod Examples
+pub mod Decided

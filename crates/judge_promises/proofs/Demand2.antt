@@ -16,7 +16,7 @@ use Rattle.table_file.specs.Accepted.{tablesOf}
 use Rattle.xml_steps.specs.Reading.{elements}
 use Rattle.xml_elements.specs.Elements.{elementsOf}
 use Rattle.xml_nesting.proofs.Read.{Rows, rows-read}
-use Rattle.judge_draft.specs.Drafts.{draft}
+use Rattle.judge_draft.specs.Drafts.{fullDraft}
 use Rattle.judge_header.specs.Header.{headerOf}
 use Rattle.judge_findings.specs.Listed.{finding, broken, findingsOf}
 use Rattle.judge_findings.specs.Holding.{Judged, Holds, InDocumentOrder}
@@ -35,7 +35,7 @@ module _ (s : List ℕ) (k : ℕ) (rows : List ℕ) (e : elementsOf s ≡ elemen
   its = rows-read s k rows e
 
   pub in-order : InDocumentOrder (draftOf s rows)
-  unfolding draftOf draftAs draft
+  unfolding draftOf draftAs fullDraft
   in-order =
       record {
         rises = λ i j h g.

@@ -1,8 +1,9 @@
 -- Demand 3, of checks that are not refused: the merge of the lists under two files is accepted, and is the list of the check under their join.
 -- Assumes nothing.
 use mathlib.Core.Path.{_≡_, sym, _∙_, ap}
+use mathlib.Core.Bool.{true}
 use mathlib.Core.List.{List}
-use Prim.Native.Nat.{ℕ, _*_, _/_, _≤_}
+use Prim.Native.Nat.{ℕ, _+_, _*_, _/_, _≤_}
 use native.Mathlib.Omega.{arith}
 use borrow.Author.Tests.{le-leb}
 use lib.ListN.{length, take, drop}
@@ -13,15 +14,18 @@ use Rattle.list_findings.specs.declared.Merged.the-variants.{Findings as Merged
 use Rattle.list_findings.specs.Findings.{width, flat, filled}
 use Rattle.list_findings.specs.Merge.{Merging as Merging, firstBadRecord, merged, firstFault, mergeOf}
 use Rattle.list_findings.proofs.Records.{records-flat, length-flat}
+use Rattle.list_records.specs.Kept.{fitting, keptIn}
+use Rattle.list_records.proofs.Kept.{flat-front, kept-long, kept-before, kept-behind}
 use Rattle.table_file.specs.Accepted.{tablesOf}
 use Rattle.table_join.specs.Joins.{Joins}
 use Rattle.xml_steps.specs.Reading.{elements}
 use Rattle.xml_elements.specs.Elements.{elementsOf}
 use Rattle.judge_findings.specs.declared.Answer.the-variants.{Findings}
 use Rattle.judge_type.specs.Drafted.{draftOf}
-use Rattle.judge_check.specs.Check.{checkOf}
+use Rattle.judge_check.specs.Check.{Outcome as Checked, checkOf}
 use Rattle.judge_check.specs.Accepted.{foundIn, Accepted}
-use Rattle.judge_both.specs.Both.{asAnswer, merging, bothOf}
+use Rattle.judge_both.specs.Both.{asAnswer, mergeSecond, checkSecond, bothOf}
+use Rattle.judge_both.proofs.Steps.{front-there}
 use Rattle.judge_check.proofs.Accepted.{accepted-check}
 use Rattle.judge_promises.proofs.Demand2.{in-order}
 use Rattle.judge_promises.proofs.Joined.{never-bad, never-faulty, findings-joined}
@@ -77,10 +81,37 @@ module _ (s c a b : List ℕ) (j : Joins c a b) (scratch table first scratch′ 
       merge-alike out (front s a first n (checkOf s a scratch table first .list) x) (front s b second m (checkOf s b scratch′ table′ second .list) y ∙ ap (λ r. flat (foundIn s r b)) p)
       ∙ (merge-is s (x .count) (x .rows) (x .read) c a b j out h ∙ sym (merging-is k (checkOf s c scratch″ table″ out .list) (foundIn s (x .rows) c) out (z .many ∙ ap length found) (z .holds ∙ ap (λ r. filled r out) found)))
 
--- ---- in code: what the two checks and the merge answer and write is what the check under the joined file answers and writes
-pub demand-3-met : (s c a b : List ℕ) → Joins c a b → (scratch table first second out scratch′ table′ : List ℕ) (n m k : ℕ) → checkOf s a scratch table first .answer ≡ Findings n → checkOf s b (checkOf s a scratch table first .scratch) (checkOf s a scratch table first .table) second .answer ≡ Findings m → checkOf s c scratch′ table′ out .answer ≡ Findings k → (bothOf s a b scratch table first second out .answer ≡ checkOf s c scratch′ table′ out .answer) × (bothOf s a b scratch table first second out .out ≡ checkOf s c scratch′ table′ out .list)
-unfolding bothOf merging
-demand-3-met s c a b j scratch table first second out scratch′ table′ n m k e f g =
-    let x = checkOf s a scratch table first in
-    let d = demand-3 s c a b j scratch table first (x .scratch) (x .table) second scratch′ table′ out n m k e f g in
-    rw (e, f) (ap (λ o. asAnswer (o .answer)) d ∙ sym g, ap (λ o. o .list) d)
+-- ---- in code: with room for the records of both, what the two checks and the merge answer and write is what the check under the joined file answers and writes
+module _ (s c a b : List ℕ) (j : Joins c a b) (scratch table list : List ℕ) (records : List Finding) (out scratch′ table′ : List ℕ) (n m k : ℕ)
+    (e : checkOf s a scratch table list .answer ≡ Findings n)
+    (f : checkOf s b (checkOf s a scratch table list .scratch) (checkOf s a scratch table list .table) (checkOf s a scratch table list .list) .answer ≡ Findings m)
+    (g : checkOf s c scratch′ table′ out .answer ≡ Findings k) (h : n + m ≤ length records) where
+  abbrev one : Checked
+  one = checkOf s a scratch table list
+
+  abbrev other : Checked
+  other = checkOf s b (one .scratch) (one .table) (one .list)
+
+  first-fits : fitting (length (one .list)) n (length records) 0 ≡ true
+  first-fits =
+      let i = front-there s a scratch table list n e in
+      rw (le-leb n (length (one .list) / width) (omega arith), le-leb (0 + n) (length records) (omega arith))
+
+  second-fits : fitting (length (other .list)) m (length (keptIn (one .list) n records 0)) n ≡ true
+  second-fits =
+      let i = front-there s b (one .scratch) (one .table) (one .list) m f in
+      rw (kept-long (one .list) n records 0, le-leb m (length (other .list) / width) (omega arith), le-leb (n + m) (length records) h)
+
+  merges : mergeSecond (other .list) m (keptIn (one .list) n records 0) n out ≡ record { answer = MergedFindings k; list = checkOf s c scratch′ table′ out .list }
+  unfolding mergeSecond
+  merges =
+      let kept = keptIn (one .list) n records 0 in
+      let before : flat (take n (keptIn (other .list) m kept n)) ≡ take (n * width) (one .list) =
+      ap flat (kept-before (other .list) m kept n second-fits ∙ kept-behind (one .list) n records 0 first-fits) ∙ flat-front (one .list) n (front-there s a scratch table list n e) in
+      let behind : flat (take m (drop n (keptIn (other .list) m kept n))) ≡ take (m * width) (other .list) =
+      ap flat (kept-behind (other .list) m kept n second-fits) ∙ flat-front (other .list) m (front-there s b (one .scratch) (one .table) (one .list) m f) in
+      rw second-fits (merge-alike out before behind ∙ demand-3 s c a b j scratch table list (one .scratch) (one .table) (one .list) scratch′ table′ out n m k e f g)
+
+  pub demand-3-met : (bothOf s a b scratch table list records out .answer ≡ checkOf s c scratch′ table′ out .answer) × (bothOf s a b scratch table list records out .out ≡ checkOf s c scratch′ table′ out .list)
+  unfolding bothOf checkSecond
+  demand-3-met = rw (e, first-fits, f) (ap (λ o. asAnswer (o .answer)) merges ∙ sym g, ap (λ o. o .list) merges)

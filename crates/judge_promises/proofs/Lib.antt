@@ -2,3 +2,4 @@ pub mod Classes
 pub mod Joined
 pub mod Demand2
 pub mod Demand3
+pub mod Numbered

@@ -7,7 +7,7 @@ use Rattle.text_scan.proofs.Tests.{and-true, and-false}
 use Rattle.text_scan.specs.declared.Found.{Found}
 use Rattle.text_scan.specs.declared.Found.the-variants.{At, Nothing}
 use Rattle.judge_paths.specs.Roles.{Establishment, Addr, OperationCode}
-use Rattle.judge_below.specs.declared.Test.the-variants.{Agent, Import}
+use Rattle.judge_tests.specs.declared.Test.the-variants.{Agent, Import}
 use Rattle.judge_draft.specs.Drafts.{Draft, is, isEmpty}
 use Rattle.judge_below.specs.Chosen.{chosen, wanted, onlyKid}
 use Rattle.judge_addresses.specs.Addresses.{addressHolds, isUsa}

@@ -6,7 +6,7 @@ use Prim.Native.Nat.{ℕ}
 use Rattle.text_scan.specs.declared.Found.{Found}
 use Rattle.text_scan.specs.declared.Found.the-variants.{At, Nothing}
 use Rattle.judge_paths.specs.Roles.{Labeler, Registrant, Establishment}
-use Rattle.judge_below.specs.declared.Test.the-variants.{Any}
+use Rattle.judge_tests.specs.declared.Test.the-variants.{Any}
 use Rattle.judge_draft.specs.Drafts.{Draft, is, isEmpty}
 use Rattle.judge_below.specs.Chosen.{chosen, wanted, onlyOne}
 use Rattle.judge_registrations.specs.Registrations.{breaks31, breaks32}

@@ -4,7 +4,7 @@ use Prim.Native.Nat.{ℕ}
 use mathlib.Core.Bool.{Bool}
 use Rattle.text_scan.specs.Choice.{_and_, not}
 use Rattle.judge_paths.specs.Roles.{Labeler, Registrant, Establishment, Addr, OperationCode}
-use Rattle.judge_below.specs.declared.Test.the-variants.{Any, Agent, Import}
+use Rattle.judge_tests.specs.declared.Test.the-variants.{Any, Agent, Import}
 use Rattle.judge_draft.specs.Drafts.{Draft, is, isEmpty}
 use Rattle.judge_below.specs.Chosen.{chosen, wanted, onlyOne, one, oneHas, onlyKid}
 use Rattle.judge_addresses.specs.Addresses.{addressHolds, isUsa}

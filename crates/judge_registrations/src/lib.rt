@@ -4,13 +4,13 @@ ghost use Rattle.judge_draft.specs.Drafts.{draft};
 ghost use Rattle.judge_registrations.specs.Registrations.{breaks31, breaks32, inUsa, breaks35, breaks36};
 use judge_addresses::address_holds;
 use judge_addresses::is_usa;
-use judge_below::Test;
 use judge_below::Wanted;
 use judge_below::none;
 use judge_below::only;
 use judge_below::only_kid;
 use judge_draft::is_role;
 use judge_paths::role;
+use judge_tests::Test;
 use text_scan::Found;
 
 // Whether 31 is broken at element n.

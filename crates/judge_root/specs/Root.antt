@@ -9,7 +9,7 @@ use Rattle.text_scan.specs.declared.Found.{Found}
 use Rattle.judge_paths.specs.Roles.{Root, Id, Code, EffectiveTime, SetId, VersionNumber, Labeler, RequestLabeler}
 use Rattle.judge_draft.specs.declared.Demand.{Demand}
 use Rattle.judge_draft.specs.declared.Demand.the-variants.{CodeRow, NoDocument, NoVersion}
-use Rattle.judge_below.specs.declared.Test.the-variants.{Any}
+use Rattle.judge_tests.specs.declared.Test.the-variants.{Any}
 use Rattle.judge_draft.specs.Drafts.{Draft, is}
 use Rattle.judge_below.specs.Chosen.{chosen, wanted, one, the}
 use Rattle.judge_draft.specs.Demands.{demandIf}

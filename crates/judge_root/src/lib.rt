@@ -3,11 +3,10 @@ ghost use mathlib.Core.Path.{_≡_};
 ghost use Rattle.judge_draft.specs.Drafts.{draft};
 ghost use lib.Dec.{eqb};
 ghost use lib.ListN.{length};
-ghost use Rattle.judge_below.specs.declared.Test.the-variants.{Any};
+ghost use Rattle.judge_tests.specs.declared.Test.the-variants.{Any};
 ghost use Rattle.judge_below.specs.Chosen.{chosen, wanted};
 ghost use Rattle.judge_header.specs.Header.{hasProperty};
 ghost use Rattle.judge_root.specs.Root.{oneOfRoot, breaks5, demand6, breaks7, demand8, breaks9, breaks10, breaks11, demand12, labelers, breaks13};
-use judge_below::Test;
 use judge_below::Wanted;
 use judge_below::how_many;
 use judge_draft::Demand;
@@ -23,6 +22,7 @@ use judge_header::set_holds;
 use judge_header::the;
 use judge_header::version_holds;
 use judge_paths::role;
+use judge_tests::Test;
 use text_scan::Found;
 
 // Whether element n breaks that the root has one child of this role, with this property: a wrong number is found at the root, any other fault at

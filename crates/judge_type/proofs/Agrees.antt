@@ -6,24 +6,25 @@ use mathlib.Core.Bool.{Bool, true, false}
 use mathlib.Core.List.{List}
 use Prim.Native.Nat.{ℕ, zero, suc, _+_, _-_, _*_, _/_, _<_, _≤_}
 use native.Mathlib.Omega.{arith}
-use borrow.Author.Tests.{ltb-true, ltb-false, eqb-true}
+use borrow.Author.Tests.{ltb-true, ltb-false, eqb-true, eqb-false}
 use lib.Dec.{eqb, ltb}
 use lib.ListN.{length, getD, List·getD-eq-default}
-use Rattle.text_scan.specs.Choice.{pick, _or_, _and_}
+use Rattle.text_scan.specs.Choice.{pick, _or_, _and_, not}
 use Rattle.text_scan.specs.declared.Found.{Found}
 use Rattle.text_scan.specs.declared.Found.the-variants.{At, Nothing}
-use Rattle.text_scan.proofs.Tests.{and-false}
-use Rattle.xml_steps.specs.Reading.{parentOf, firstOf, afterOf}
+use Rattle.xml_steps.specs.Reading.{parentOf, firstOf}
 use Rattle.judge_paths.specs.declared.DocumentType.{DocumentType}
 use Rattle.judge_paths.specs.declared.DocumentType.the-variants.{Neither, Registration, Request}
 use Rattle.judge_paths.specs.Roles.{Unknown, Root, Id, Code, EffectiveTime, SetId, VersionNumber}
 use Rattle.judge_paths.specs.Paths.{either, fits, roleNamed, childRole, hasRow, elementName, roleOf}
 use Rattle.judge_paths.proofs.Walks.{role-root, role-told}
 use Rattle.judge_notes.specs.Notes.{notesOf}
-use Rattle.judge_notes.proofs.Noted.{notes-length, note-role, note-parent, note-first, note-after}
-use Rattle.judge_draft.specs.Drafts.{Draft, draft, elementCount, role, parent, first, after, is, attribute}
-use Rattle.judge_below.specs.declared.Test.the-variants.{Any}
-use Rattle.judge_below.specs.Chosen.{passes, ancestor, placed, wants, within, chosenFrom, chosen, wanted, oneHas, onlyOne, onlyKid}
+use Rattle.judge_notes.proofs.Noted.{notes-length, note-role, note-parent, note-first}
+use Rattle.judge_draft.specs.Below.{ancestorIn, standsBelow, those, allBelow}
+use Rattle.judge_draft.specs.Drafts.{Draft, fullDraft, elementCount, role, parent, first, is, attribute}
+use Rattle.judge_tests.specs.declared.Test.the-variants.{Any}
+use Rattle.judge_tests.specs.Passing.{passes}
+use Rattle.judge_below.specs.Chosen.{meets, chosen, wanted, kids, oneHas, onlyOne, onlyKid}
 use Rattle.judge_header.specs.declared.Header.{Header}
 use Rattle.judge_header.specs.Header.{headerOf, registrationCode, requestCode, codeIs, typedCode, hasType, typeOf}
 use Rattle.judge_type.specs.Drafted.{draftAs, typeIn, draftOf}
@@ -73,6 +74,14 @@ module _ (s rows : List ℕ) where
           List·getD-eq-default (notesOf s rows t) 0 (omega (arith, notes-length s rows t))
           ∙ sym (List·getD-eq-default (notesOf s rows Neither) 0 (omega (arith, notes-length s rows Neither)))
 
+  -- the children of the root
+  abbrev sought : Draft → ℕ → ℕ → Bool
+  sought d r k = standsBelow (d .notes) 1 0 k and meets d (wanted r 1 Any) k
+
+  kids-are : (t : DocumentType) (r : ℕ) → kids (draftAs t s rows) 0 r ≡ those (sought (draftAs t s rows) r) 0 (elementCount (draftAs t s rows))
+  unfolding draftAs fullDraft chosen allBelow
+  kids-are t r = refl
+
   module _ (t : DocumentType) where
     abbrev a : Draft
     a = draftAs t s rows
@@ -81,64 +90,54 @@ module _ (s rows : List ℕ) where
     b = draftAs Neither s rows
 
     same-parent : (k : ℕ) → parent a k ≡ parent b k
-    unfolding draftAs draft
+    unfolding draftAs fullDraft
     same-parent k = same-at 1 (parentOf rows) (note-parent s rows) t k
 
     same-first : (k : ℕ) → first a k ≡ first b k
-    unfolding draftAs draft
+    unfolding draftAs fullDraft
     same-first k = same-at 2 (firstOf rows) (note-first s rows) t k
 
-    same-after : (k : ℕ) → after a k ≡ after b k
-    unfolding draftAs draft
-    same-after k = same-at 3 (afterOf rows) (note-after s rows) t k
-
     same-count : elementCount a ≡ elementCount b
-    unfolding draftAs draft
+    unfolding draftAs fullDraft
     same-count = ap (λ (n : ℕ). n / 4) (notes-length s rows t ∙ sym (notes-length s rows Neither))
 
     count-is : elementCount b ≡ length rows / 4
-    unfolding draftAs draft
+    unfolding draftAs fullDraft
     count-is = omega (arith, notes-length s rows Neither)
 
     -- the role of a child of the root
     same-role : (k : ℕ) → k < length rows / 4 → (k ≡ 0 → ⊥) → parent b k ≡ 0 → role a k ≡ role b k
-    unfolding draftAs draft
+    unfolding draftAs fullDraft
     same-role k h z e =
         let p : parentOf rows k ≡ 0 = sym (note-parent s rows Neither k h) ∙ e in
         note-role s rows t k h ∙ (by-root t k z p ∙ (sym (by-root Neither k z p) ∙ sym (note-role s rows Neither k h)))
 
-    same-wants : (r k : ℕ) → k < length rows / 4 → (k ≡ 0 → ⊥) → wants a (wanted r 1 Any) 0 k ≡ wants b (wanted r 1 Any) 0 k
-    unfolding wants is placed ancestor passes
-    same-wants r k h z = rw (same-parent k) (go (eqb (parent b k) 0) refl)
+    same-sought : (r k : ℕ) → k < length rows / 4 → sought a r k ≡ sought b r k
+    unfolding ancestorIn is passes
+    same-sought r k h = rw (same-parent k) (go (eqb (parent b k) 0) (eqb k 0) refl refl)
       where
-        go : (v : Bool) → eqb (parent b k) 0 ≡ v → eqb (role a k) r and (eqb (parent b k) 0 and true) ≡ eqb (role b k) r and (eqb (parent b k) 0 and true)
-        go true q = rw (same-role k h z (eqb-true (parent b k) 0 q))
-        go false q = rw q (and-false (eqb (role a k) r) ∙ sym (and-false (eqb (role b k) r)))
+        go : (v z : Bool) → eqb (parent b k) 0 ≡ v → eqb k 0 ≡ z → (v and not z) and (is a r k and passes a Any k) ≡ (v and not z) and (is b r k and passes b Any k)
+        go true false q e = rw (same-role k h (eqb-false k 0 e) (eqb-true (parent b k) 0 q))
+        go true true q e = refl
+        go false z q e = refl
 
-    same-none : (r k : ℕ) → within a (wanted r 1 Any) 0 k 0 ≡ within b (wanted r 1 Any) 0 k 0
-    unfolding within
-    same-none r k = refl
-
-    same-within : (r m k : ℕ) → (k ≡ 0 → ⊥) → k + m ≤ length rows / 4 → within a (wanted r 1 Any) 0 k m ≡ within b (wanted r 1 Any) 0 k m
-    unfolding within
-    same-within r zero k z h = refl
-    same-within r (suc m) k z h =
-        rw (same-first k, same-after 0, same-wants r k (omega arith) z, same-within r m (k + 1) (λ e. omega arith) (omega arith))
+    same-those : (r m k : ℕ) → k + m ≤ length rows / 4 → those (sought a r) k m ≡ those (sought b r) k m
+    unfolding those
+    same-those r zero k h = refl
+    same-those r (suc m) k h = rw (same-sought r k (omega arith), same-those r m (k + 1) (omega arith))
 
     same-kid : (r : ℕ) → onlyKid a 0 r ≡ onlyKid b 0 r
-    unfolding chosen chosenFrom
-    same-kid r = rw same-count (ap onlyOne (at (elementCount b - (0 + 1)) refl))
+    same-kid r = ap onlyOne (kids-are t r ∙ (by (elementCount b) refl ∙ sym (kids-are Neither r)))
       where
-        at : (m : ℕ) → elementCount b - (0 + 1) ≡ m → within a (wanted r 1 Any) 0 (0 + 1) m ≡ within b (wanted r 1 Any) 0 (0 + 1) m
-        at zero e = same-none r (0 + 1)
-        at (suc m) e = same-within r (suc m) (0 + 1) (λ q. omega arith) (omega (arith, e, count-is))
+        by : (m : ℕ) → elementCount b ≡ m → those (sought a r) 0 (elementCount a) ≡ those (sought b r) 0 m
+        by m e = rw (same-count, e) (same-those r m 0 (omega (arith, e, count-is)))
 
     pub same-header : headerOf a ≡ headerOf b
     unfolding headerOf
     same-header = rw (same-kid Id, same-kid Code, same-kid EffectiveTime, same-kid SetId, same-kid VersionNumber)
 
     same-code : (type : List ℕ) (k : ℕ) → codeIs a type k ≡ codeIs b type k
-    unfolding codeIs attribute draftAs draft
+    unfolding codeIs attribute draftAs fullDraft
     same-code type k = rw (same-first k)
 
     pub same-type : typeOf a (headerOf a) ≡ typeIn s rows

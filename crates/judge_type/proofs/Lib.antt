@@ -1,2 +1,4 @@
+pub mod Ordered
 pub mod Drafted
 pub mod Agrees
+pub mod Decided

@@ -5,12 +5,12 @@ use mathlib.Core.List.{List}
 use Rattle.judge_paths.specs.declared.DocumentType.{DocumentType}
 use Rattle.judge_paths.specs.declared.DocumentType.the-variants.{Neither}
 use Rattle.judge_notes.specs.Notes.{notesOf}
-use Rattle.judge_draft.specs.Drafts.{Draft, draft}
+use Rattle.judge_draft.specs.Drafts.{Draft, fullDraft}
 use Rattle.judge_header.specs.Header.{headerOf, typeOf}
 
 -- as a draft of this type
 unfoldable pub draftAs : DocumentType → List ℕ → List ℕ → Draft
-draftAs t s rows = draft s (notesOf s rows t)
+draftAs t s rows = fullDraft s (notesOf s rows t)
 
 -- the type is told by the header, which is the same for all types: nothing outside author depends on the type
 unfoldable pub typeIn : List ℕ → List ℕ → DocumentType

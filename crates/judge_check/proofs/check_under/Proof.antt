@@ -1,6 +1,6 @@
 -- `judge_check::check_under` meets its contract.
 -- Assumes nothing.
-use Rattle.judge_check.proofs.Chain.{under-fits, under-room, under-few, under-refused, under-judged}
+use Rattle.judge_check.proofs.Chain.{under-fits, under-room, under-nested, under-few, under-refused, under-judged}
 use borrow.Author.Needs.{needs}
 use Rattle.judge_check.proofs.check_under.Statement.{statement}
 use Rattle.judge_check.proofs.check_under.Tie as tie
@@ -30,7 +30,7 @@ part-judge-end : tie.Need-part-judge-end
 part-judge-end c = search under-room
 
 judge-requires : tie.Need-judge-requires
-judge-requires c κs = search under-few
+judge-requires c κs = (search under-nested, search under-few)
 
 same-length : tie.Need-same-length
 same-length c = search needs

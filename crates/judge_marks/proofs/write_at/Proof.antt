@@ -1,7 +1,7 @@
 -- `judge_marks::write_at` meets its contract.
 -- Assumes nothing.
 use Rattle.judge_draft.specs.Drafts.{draft}
-use Rattle.judge_marks.specs.Marks.{most}
+use Rattle.judge_asked.specs.Asked.{most}
 use Prim.Native.Nat.{_-_}
 use Rattle.judge_marks.proofs.Appended.{Left, left-start, left-none-count, left-none-list, left-over-count, left-over-list, left-no, left-one}
 use borrow.Author.Needs.{needs}

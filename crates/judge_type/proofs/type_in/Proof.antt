@@ -30,7 +30,7 @@ same-length : tie.Need-same-length
 same-length c = search needs
 
 returns : tie.Need-returns
-returns c = search type-is
+returns c = (search type-is, search needs)
 
 pub type-in-spec : {M : Type 1} → statement M
 type-in-spec =

@@ -12,7 +12,7 @@ use lib.ListN.{length, getD, List·getD-eq-default}
 use Rattle.text_scan.proofs.Within.{inside}
 use Rattle.judge_paths.specs.Roles.{Unlisted, Root, Id, Code, EffectiveTime, SetId, VersionNumber, Entity1, Labeler, Entity2, Registrant, Entity3, Establishment, Entity4, Agent, OrganisationId, OrganisationName, ContactParty, Addr, Telecom, OperationCode, RequestEntity, RequestLabeler}
 use Rattle.judge_procedures.specs.Procedures.{numbered, foundAt, askedFrom, askedAt}
-use Rattle.judge_marks.specs.Marks.{most, padded, askedRow}
+use Rattle.judge_asked.specs.Asked.{most, padded, askedRow}
 
 -- how many roles there are
 abbrev pub roles : ℕ

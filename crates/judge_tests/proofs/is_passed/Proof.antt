@@ -1,9 +1,9 @@
--- `judge_below::is_passed` meets its contract.
+-- `judge_tests::is_passed` meets its contract.
 -- Assumes nothing.
-use Rattle.judge_below.proofs.Looking.{passes-any, passes-duns, passes-labeler, passes-telephone, passes-mail, passes-agent, passes-import, passes-empty}
+use Rattle.judge_tests.proofs.Passes.{passes-any, passes-duns, passes-labeler, passes-telephone, passes-mail, passes-agent, passes-import, passes-empty}
 use borrow.Author.Needs.{needs}
-use Rattle.judge_below.proofs.is_passed.Statement.{statement}
-use Rattle.judge_below.proofs.is_passed.Tie as tie
+use Rattle.judge_tests.proofs.is_passed.Statement.{statement}
+use Rattle.judge_tests.proofs.is_passed.Tie as tie
 
 enum-told : tie.Need-enum-told
 enum-told c = search needs

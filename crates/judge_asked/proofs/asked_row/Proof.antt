@@ -1,13 +1,13 @@
--- `judge_marks::asked_row` meets its contract.
+-- `judge_asked::asked_row` meets its contract.
 -- Assumes nothing.
 use mathlib.Core.Path.{refl}
 use mathlib.Core.List.{[]}
 use Rattle.judge_procedures.specs.Procedures.{numbered, foundAt, askedFrom, askedAt}
-use Rattle.judge_marks.specs.Marks.{padded}
-use Rattle.judge_marks.proofs.Table.{mapped, row-there, row-past}
+use Rattle.judge_asked.specs.Asked.{padded}
+use Rattle.judge_asked.proofs.Table.{mapped, row-there, row-past}
 use borrow.Author.Needs.{needs}
-use Rattle.judge_marks.proofs.asked_row.Statement.{statement}
-use Rattle.judge_marks.proofs.asked_row.Tie as tie
+use Rattle.judge_asked.proofs.asked_row.Statement.{statement}
+use Rattle.judge_asked.proofs.asked_row.Tie as tie
 
 mul-result : tie.Need-mul-result
 mul-result c = search needs

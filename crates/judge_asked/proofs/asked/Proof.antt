@@ -1,9 +1,9 @@
--- `judge_marks::asked` meets its contract.
+-- `judge_asked::asked` meets its contract.
 -- Assumes nothing.
-use Rattle.judge_marks.proofs.Table.{asked-none, asked-of}
+use Rattle.judge_asked.proofs.Table.{asked-none, asked-of}
 use borrow.Author.Needs.{needs}
-use Rattle.judge_marks.proofs.asked.Statement.{statement}
-use Rattle.judge_marks.proofs.asked.Tie as tie
+use Rattle.judge_asked.proofs.asked.Statement.{statement}
+use Rattle.judge_asked.proofs.asked.Tie as tie
 
 returns : tie.Need-returns
 returns c = search asked-none
