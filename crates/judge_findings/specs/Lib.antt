@@ -1,3 +1,4 @@
 pub mod Listed
 pub mod Holding
 pub mod Room
+pub mod Numbered

@@ -1,2 +1,3 @@
 pub mod Admitted
 mod Cleared
+pub mod Decided

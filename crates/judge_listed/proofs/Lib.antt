@@ -1,3 +1,4 @@
 pub mod Laws
 pub mod Groups
 pub mod Spaces
+pub mod Decided

@@ -2,5 +2,4 @@ pub mod Roles
 pub mod Paths
 pub mod Words
 pub mod Attributes
-pub mod Unique
 pub mod Examples

@@ -1,3 +1,3 @@
 pub mod Accepted
 pub mod Examples
-pub mod Unique
+pub mod Numbered

@@ -1,3 +1,2 @@
 pub mod Lines
 pub mod Starts
-pub mod Unique

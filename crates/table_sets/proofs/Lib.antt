@@ -1,1 +1,2 @@
 pub mod FirstRow
+pub mod Decided

@@ -1,3 +1,2 @@
 pub mod SetKeys
-pub mod Unique
 pub mod Examples

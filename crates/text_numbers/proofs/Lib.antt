@@ -1,2 +1,3 @@
 pub mod DayLaws
 pub mod NumberLaws
+pub mod Decided

@@ -6,3 +6,5 @@ pub mod Bytes
 pub mod Table
 pub mod Ending
 pub mod Turns
+pub mod Decides
+pub mod Decided

@@ -2,5 +2,5 @@ pub mod Choice
 pub mod Bytes
 pub mod Lists
 pub mod Walk
-pub mod Unique
 pub mod Turns
+pub mod Numbered

@@ -1,1 +1,2 @@
 pub mod TelephoneLaws
+pub mod Decided

@@ -1,2 +1,1 @@
 pub mod Telephones
-pub mod Unique

@@ -3,3 +3,4 @@ pub mod Keeping
 pub mod Parts
 pub mod Chains
 pub mod Some
+pub mod Decided

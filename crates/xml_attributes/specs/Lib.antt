@@ -2,4 +2,3 @@ pub mod Attributes
 pub mod Examples
 pub mod Parts
 pub mod Chains
-pub mod Unique

@@ -1,1 +1,2 @@
 pub mod Declaration
+pub mod Decided

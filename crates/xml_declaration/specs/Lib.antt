@@ -1,3 +1,2 @@
 pub mod Declaration
 pub mod Examples
-pub mod Unique

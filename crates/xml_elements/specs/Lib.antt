@@ -1,3 +1,3 @@
 pub mod Elements
 pub mod Walked
-pub mod Unique
+pub mod Numbered

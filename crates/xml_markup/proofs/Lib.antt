@@ -1,3 +1,4 @@
 pub mod Comments
 pub mod AnyCase
 pub mod Instructions
+pub mod Decided

@@ -2,4 +2,3 @@ pub mod Comments
 pub mod AnyCase
 pub mod Instructions
 pub mod Examples
-pub mod Unique

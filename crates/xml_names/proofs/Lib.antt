@@ -1,3 +1,4 @@
 pub mod ElementNames
 pub mod Names
 pub mod Values
+pub mod Decided

@@ -1,5 +1,4 @@
 pub mod ElementNames
 pub mod Examples
 pub mod Names
-pub mod Unique
 pub mod Values
