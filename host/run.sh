@@ -1,5 +1,6 @@
 #!/bin/sh
-# Holds the product against the outside: the vectors, an independent reference on made-up cases, expat and libxml2.
+# Holds the product against the outside: the vectors, an independent reference on made-up cases, expat and libxml2. Then measures it: by time, and
+# by instructions.
 #
 #   host/run.sh [CASES [SECONDS [ARCHIVE [VECTORS]]]]
 #
@@ -37,6 +38,8 @@ else
     [ -e /usr/include/expat.h ] || need libexpat1-dev
     [ -e /usr/include/libxml2/libxml/parser.h ] || need libxml2-dev
 fi
+has qemu-x86_64 || need qemu-user
+has cc || need gcc libc6-dev
 get "$build/apt.log"
 
 flags=
@@ -63,7 +66,7 @@ for crate in reference drafts xmllibs; do
     compile --crate-type rlib --crate-name $crate "$sources/$crate.rs"
 done
 compile --crate-type rlib --crate-name binding $standin --extern reference=libreference.rlib "$sources/binding.rs"
-for program in vectors compare parsers bench; do
+for program in vectors compare parsers bench count; do
     compile --crate-type bin ${archive:+-C "link-arg=$archive"} --extern reference=libreference.rlib --extern drafts=libdrafts.rlib \
         --extern xmllibs=libxmllibs.rlib --extern binding=libbinding.rlib "$sources/$program.rs"
 done
@@ -81,6 +84,25 @@ run vectors "$vectors" "$sources/../merges.txt"
 run compare 0 "$cases" differ "$seconds"
 run parsers 0 $((cases / 10)) differ
 run bench ${emulator:+emulated}
+
+# Instructions, counted by the emulator on every machine: they do not depend on what else runs there. A run of `count` that works twice less one
+# that works once is one work. Memory is cleared and copied without the instructions of which one does it all.
+cc -O2 -shared -fPIC -o libcount.so "$sources/count.c"
+mkdir -p inputs
+$emulator ./bench files inputs >inputs/list
+counted() {
+    GLIBC_TUNABLES=glibc.cpu.x86_rep_stosb_threshold=2000000000:glibc.cpu.x86_rep_movsb_threshold=2000000000 \
+        qemu-x86_64 -plugin ./libcount.so -d plugin ./count "$1" "inputs/$2.xml" "inputs/$2.tables" "$3" 2>&1
+}
+work() { echo $(($(counted "$1" "$2" 2) - $(counted "$1" "$2" 1))); }
+printf '\n%-48s %15s %15s %9s\n' instructions check expat ratio
+while IFS='	' read -r number name; do
+    check=$(work check "$number")
+    expat=$(work expat "$number")
+    [ "$check" -gt 0 ] && [ "$expat" -gt 0 ] || { echo "$name: not counted" && failed=1 && continue; }
+    hundredths=$((check * 100 / expat))
+    printf '%-48s %15d %15d %6d.%02d\n' "$name" "$check" "$expat" $((hundredths / 100)) $((hundredths % 100))
+done <inputs/list
 if [ $failed -ne 0 ]; then
     echo "host: the product and the outside differ"
     exit 1

@@ -4,6 +4,9 @@
 //! the check takes, medians of several warm runs, and the check's answer. Then how time grows with size, and which of the
 //! worst inputs stay under a second. All times are those of the processor, which other programs on the machine hardly
 //! change. With `emulated` no times are printed, since an emulator's say nothing, and there are fewer runs.
+//!
+//! `bench files FOLDER` measures nothing: it writes each input to `NUMBER.xml` and `NUMBER.tables` there, for `count`, and prints a
+//! line with its number and its name.
 
 use drafts::clean::{self, Below, Element, DUNS, LABELER_CODES, NCI};
 use drafts::random::Random;
@@ -45,8 +48,14 @@ const EMULATED: Patience = Patience { most: 5, least: 1, enough: 1.0, limit: 8 }
 const LONG: f64 = 0.1;
 
 fn main() {
-    let bench = &mut Bench::new(std::env::args().nth(1).is_some_and(|argument| argument == "emulated"));
-    bench.heading();
+    let words: Vec<String> = std::env::args().skip(1).collect();
+    let bench = &mut match &words.iter().map(String::as_str).collect::<Vec<_>>()[..] {
+        ["files", folder] => Bench::new(false, Some(folder.to_string())),
+        words => Bench::new(words == ["emulated"], None),
+    };
+    if bench.folder.is_none() {
+        bench.heading();
+    }
 
     let (request, request_facts) = request();
     let (small, small_facts) = registration(40);
@@ -65,7 +74,7 @@ fn main() {
     bench.line("1,500 bare establishments, small tables", &bare, &tables(&bare_facts, 0));
     bench.line("1,500 bare establishments, full tables", &bare, &tables(&bare_facts, FULL));
 
-    println!();
+    bench.part();
     worst_readings(bench);
     worst_siblings(bench);
     worst_codes(bench);
@@ -73,7 +82,10 @@ fn main() {
     worst_register(bench);
     worst_histories(bench);
 
-    println!();
+    bench.part();
+    if bench.folder.is_some() {
+        return;
+    }
     bench.growth("document, small tables", (&half, &tables(&half_facts, 0)), (&large, &tables(&large_facts, 0)));
     bench.growth("document, full tables", (&half, &tables(&half_facts, FULL)), (&large, &tables(&large_facts, FULL)));
     bench.growth("tables", (&large, &tables(&large_facts, HALF)), (&large, &tables(&large_facts, FULL)));
@@ -204,6 +216,8 @@ fn worst_histories(bench: &mut Bench) {
 /// The memory that is lent to the check, with room for every answer, and what is measured.
 struct Bench {
     emulated: bool,
+    /// The folder for the inputs, where they are only written.
+    folder: Option<String>,
     patience: Patience,
     rooms: Rooms,
     /// The worst inputs and the seconds that their check takes.
@@ -231,13 +245,30 @@ impl Rooms {
 }
 
 impl Bench {
-    fn new(emulated: bool) -> Bench {
+    fn new(emulated: bool, folder: Option<String>) -> Bench {
         let patience = if emulated { EMULATED } else { DIRECT };
-        Bench { emulated, patience, rooms: Rooms::new(), worst: Vec::new() }
+        Bench { emulated, folder, patience, rooms: Rooms::new(), worst: Vec::new() }
+    }
+
+    /// Writes an input to two files, which have its number, and prints its number and name.
+    fn write(&mut self, folder: &str, name: &str, document: &[u8], tables: &[u8]) {
+        let number = self.worst.len();
+        for (kind, bytes) in [("xml", document), ("tables", tables)] {
+            std::fs::write(format!("{folder}/{number}.{kind}"), bytes).expect("a file that can be written");
+        }
+        println!("{number}\t{name}");
+        self.worst.push((name.to_string(), 0.0));
     }
 
     fn heading(&self) {
         self.columns("input", "document", "tables", "check us", "/ expat", "/ libxml2", "answer");
+    }
+
+    /// An empty line between the parts of what is printed.
+    fn part(&self) {
+        if self.folder.is_none() {
+            println!();
+        }
     }
 
     /// Prints one line. An emulator's times say nothing.
@@ -260,6 +291,9 @@ impl Bench {
     /// The same with or without libxml2.
     fn measure(&mut self, name: &str, document: &[u8], tables: &[u8], worst: bool, with_libxml2: bool) {
         assert!(document.len() <= limits::LENGTH && tables.len() <= limits::LENGTH, "{name}: over a limit");
+        if let Some(folder) = self.folder.clone() {
+            return self.write(&folder, name, document, tables);
+        }
         let (patience, rooms) = (&self.patience, &mut self.rooms);
         let mut check = || rooms.check(document, tables);
         let mut expat = || _ = black_box(xmllibs::expat_takes(document));
