@@ -1,7 +1,10 @@
 // The procedures that an element of a role is asked.
 ghost use mathlib.Core.Path.{_≡_};
+ghost use mathlib.Core.List.{[], _∷_};
 ghost use lib.ListN.{getD};
-ghost use Rattle.judge_asked.specs.Asked.{askedRow};
+ghost use Rattle.judge_paths.specs.Attributes.{isRole};
+ghost use Rattle.judge_asked.specs.Asked.{askedRow, plainRoles};
+use judge_paths::role;
 
 // The most procedures that can be found at elements of one role.
 pub const MOST: usize = 16;
@@ -112,4 +115,57 @@ pub fn asked(role: u32, i: usize) -> u32
     }
     let row = asked_row(role);
     row[i] as u32
+}
+
+// Whether a number is one of five.
+fn is_one_of(number: u32, a: u32, b: u32, c: u32, d: u32, e: u32) -> bool
+    ensures { λ r. ⌜ r ≡ isRole number (a ∷ b ∷ c ∷ d ∷ e ∷ []) ⌝ }
+{
+    if number == a {
+        return true;
+    }
+    if number == b {
+        return true;
+    }
+    if number == c {
+        return true;
+    }
+    if number == d {
+        return true;
+    }
+    number == e
+}
+
+// Whether elements of this role have no procedures of their own, and list neither a code nor an extension: most elements.
+pub fn is_plain(number: u32) -> bool
+    ensures { λ r. ⌜ r ≡ isRole number plainRoles ⌝ }
+{
+    if is_one_of(
+        number,
+        role::STREET_ADDRESS_LINE,
+        role::CITY,
+        role::STATE,
+        role::POSTAL_CODE,
+        role::COUNTRY,
+    ) {
+        return true;
+    }
+    if is_one_of(
+        number,
+        role::CONTACT_PERSON,
+        role::PERSON_NAME,
+        role::PERFORMANCE,
+        role::ACT_DEFINITION,
+        role::TITLE,
+    ) {
+        return true;
+    }
+    is_one_of(
+        number,
+        role::BR,
+        role::AUTHOR,
+        role::COMPONENT,
+        role::STRUCTURED_BODY,
+        role::TIME,
+    )
 }

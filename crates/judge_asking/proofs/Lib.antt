@@ -1,3 +1,4 @@
 pub mod Marked
+pub mod Plainly
 pub mod Filled
 pub mod Decided

@@ -17,6 +17,7 @@ use judge_answers::Places;
 use judge_answers::is_broken;
 use judge_asked::MOST;
 use judge_asked::asked_row;
+use judge_asked::is_plain;
 use judge_header::Header;
 use judge_marks::push;
 use judge_procedures::Met;
@@ -62,6 +63,29 @@ fn mark(
     m
 }
 
+// The same: 0 at once where nothing but 3 and 4 can be found, and neither is broken.
+fn mark_at(
+    document: &[u8],
+    notes: &[u32],
+    header: Header,
+    tables: &[u8],
+    places: Places,
+    index: &[u32],
+    met: Met,
+    n: usize,
+) -> u64
+    requires { ⌜ (met .held ≡ hasEstablishment (draft (now document) (now notes)) (met .entity)) × (met .three ≡ breaks3 (draft (now document) (now notes)) n) × Served (draft (now document) (now notes)) (now tables) places (now index) ⌝ }
+    ensures { λ r. ⌜ r ≡ markOf (draft (now (document .entry)) (now (notes .entry))) (broken (draft (now (document .entry)) (now (notes .entry))) header (tablesAt (now (tables .entry)) places)) n ⌝ }
+{
+    if met.three {
+        return mark(document, notes, header, tables, places, index, met, n);
+    }
+    if is_plain(judge_draft::role_at(document, notes, n)) {
+        return 0;
+    }
+    mark(document, notes, header, tables, places, index, met, n)
+}
+
 // Stores the marks of all elements from the front of a run, and answers how many findings they tell of.
 pub fn fill(
     document: &[u8],
@@ -84,7 +108,7 @@ pub fn fill(
         held = judge_operations::held_at(document, notes, entity, held, at);
         entity = at;
         let three = judge_listed::breaks_3(document, notes, n);
-        let m = mark(
+        let m = mark_at(
             document,
             notes,
             header,

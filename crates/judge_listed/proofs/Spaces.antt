@@ -6,7 +6,7 @@ use mathlib.Core.List.{List, [], _∷_}
 use mathlib.Core.Logic.{inl, inr}
 use Prim.Native.Nat.{ℕ}
 use borrow.Author.Tests.{ne-eqb}
-use Rattle.text_scan.specs.Choice.{not}
+use Rattle.text_scan.specs.Choice.{_and_, not}
 use Rattle.text_scan.specs.Bytes.{text}
 use Rattle.text_scan.specs.Lists.{every, pairs}
 use Rattle.text_scan.proofs.Tests.{never, pick-case, and-true}
@@ -14,8 +14,8 @@ use Rattle.text_facts.specs.Strings.{equal, withoutSpace, isOneOf}
 use Rattle.xml_values.proofs.Unlisted.{unlisted-says}
 use Rattle.judge_paths.specs.Roles.{Id, Code, OrganisationId, OperationCode}
 use Rattle.judge_paths.specs.Attributes.{Lists, attributeTable, isRole, listedNames}
-use Rattle.judge_draft.specs.Drafts.{Draft, role, first, attribute}
-use Rattle.judge_listed.specs.Listed.{listsAt, otherThan, hasSpace}
+use Rattle.judge_draft.specs.Drafts.{Draft, role, first, isKnown, attribute}
+use Rattle.judge_listed.specs.Listed.{listsAt, otherThan, hasSpace, breaks3, breaks4}
 use Rattle.judge_listed.proofs.Groups.{OneOf2}
 
 -- ---- a role whose row does not list a name
@@ -71,3 +71,12 @@ module _ (d : Draft) (n : ℕ) (o : otherThan d n (listsAt d n) ≡ false) (q : 
   pub space-elsewhere : (OneOf2 Id OrganisationId q → ⊥) → (OneOf2 Code OperationCode q → ⊥) → false ≡ hasSpace d n
   unfolding withoutSpace every
   space-elsewhere h i = rw (silent (text "code") (code-absent q i), silent (text "extension") (extension-absent q h))
+
+-- where 3 holds, 4 is broken only where a code or an extension is listed
+pub no-space : (d : Draft) (n : ℕ) → breaks3 d n ≡ false → (OneOf2 Id OrganisationId (role d n) → ⊥) → (OneOf2 Code OperationCode (role d n) → ⊥) → breaks4 d n ≡ false
+unfolding breaks3 breaks4
+no-space d n e h i = go (isKnown d n) e
+  where
+    go : (t : Bool) → t and otherThan d n (listsAt d n) ≡ false → t and hasSpace d n ≡ false
+    go true o = sym (space-elsewhere d n o (role d n) refl h i)
+    go false o = refl

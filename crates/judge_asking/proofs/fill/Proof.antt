@@ -34,8 +34,8 @@ held-at-requires c κs = search needs
 breaks-3-requires : tie.Need-breaks-3-requires Inv-loop μ-loop
 breaks-3-requires c κs = search needs
 
-mark-requires : tie.Need-mark-requires Inv-loop μ-loop
-mark-requires c κs = search needs
+mark-at-requires : tie.Need-mark-at-requires Inv-loop μ-loop
+mark-at-requires c κs = search needs
 
 mul-marks : tie.Need-mul-marks Inv-loop μ-loop
 mul-marks c = search needs
@@ -75,7 +75,7 @@ fill-spec =
     entity-at-requires
     held-at-requires
     breaks-3-requires
-    mark-requires
+    mark-at-requires
     mul-marks
     slice-write-marks
     how-many-requires
