@@ -10,7 +10,7 @@ use Rattle.text_scan.specs.Choice.{_or_}
 use Rattle.text_scan.proofs.Tests.{never, or-false}
 use Rattle.judge_paths.specs.Roles.{Id, Code, Title, Br, Author, Component, StructuredBody, Time, OrganisationId, ContactPerson, PersonName, StreetAddressLine, City, State, PostalCode, Country, Performance, ActDefinition, OperationCode}
 use Rattle.judge_paths.specs.Attributes.{isRole}
-use Rattle.judge_procedures.specs.Procedures.{numbered, foundAt, askedFrom, askedAt}
+use Rattle.judge_procedures.specs.Procedures.{withNumber, foundAt, askedFrom, askedAt}
 use Rattle.judge_asked.specs.Asked.{plainRoles}
 
 module _ (q : ℕ) where
@@ -84,7 +84,7 @@ each-is p q (a ∷ xs) e h = go (eqb q a) refl h (each-is p q xs (e .1))
 
 module _ (q : ℕ) (h : isRole q plainRoles ≡ true) where
   pub plain-asked : askedAt q ≡ 3 ∷ 4 ∷ []
-  unfolding askedAt askedFrom foundAt numbered
+  unfolding askedAt askedFrom foundAt withNumber
   plain-asked =
       each-is (λ r. askedAt r ≡ 3 ∷ 4 ∷ []) q plainRoles
       (refl, (refl, (refl, (refl, (refl, (refl, (refl, (refl, (refl, (refl, (refl, (refl, (refl, (refl, (refl, tt)))))))))))))))

@@ -11,7 +11,7 @@ use lib.Dec.{leb}
 use lib.ListN.{length, getD, List·getD-eq-default}
 use Rattle.text_scan.proofs.Within.{inside}
 use Rattle.judge_paths.specs.Roles.{Unlisted, Root, Id, Code, EffectiveTime, SetId, VersionNumber, Entity1, Labeler, Entity2, Registrant, Entity3, Establishment, Entity4, Agent, OrganisationId, OrganisationName, ContactParty, Addr, Telecom, OperationCode, RequestEntity, RequestLabeler}
-use Rattle.judge_procedures.specs.Procedures.{numbered, foundAt, askedFrom, askedAt}
+use Rattle.judge_procedures.specs.Procedures.{withNumber, foundAt, askedFrom, askedAt}
 use Rattle.judge_asked.specs.Asked.{most, padded, askedRow}
 
 -- how many roles there are
@@ -41,13 +41,13 @@ padded-length (suc k) (p ∷ ps) = ap suc (padded-length k ps)
 
 -- an element without procedures of its own
 title : askedAt 5 ≡ 3 ∷ 4 ∷ []
-unfolding askedAt askedFrom foundAt numbered
+unfolding askedAt askedFrom foundAt withNumber
 title = refl
 
 -- ---- a number that no role has
 module _ (r : ℕ) (h : roles ≤ r) where
   pub asked-other : askedAt r ≡ 3 ∷ 4 ∷ []
-  unfolding askedAt askedFrom foundAt numbered
+  unfolding askedAt askedFrom foundAt withNumber
   asked-other = rw (ne-eqb r Unlisted (λ e. absurd (omega arith)), ne-eqb r Root (λ e. absurd (omega arith)), ne-eqb r Id (λ e. absurd (omega arith)), ne-eqb r Code (λ e. absurd (omega arith)), ne-eqb r EffectiveTime (λ e. absurd (omega arith)), ne-eqb r SetId (λ e. absurd (omega arith)), ne-eqb r VersionNumber (λ e. absurd (omega arith)), ne-eqb r Entity1 (λ e. absurd (omega arith)), ne-eqb r Labeler (λ e. absurd (omega arith)), ne-eqb r Entity2 (λ e. absurd (omega arith)), ne-eqb r Registrant (λ e. absurd (omega arith)), ne-eqb r Entity3 (λ e. absurd (omega arith)), ne-eqb r Establishment (λ e. absurd (omega arith)), ne-eqb r Entity4 (λ e. absurd (omega arith)), ne-eqb r Agent (λ e. absurd (omega arith)), ne-eqb r OrganisationId (λ e. absurd (omega arith)), ne-eqb r OrganisationName (λ e. absurd (omega arith)), ne-eqb r ContactParty (λ e. absurd (omega arith)), ne-eqb r Addr (λ e. absurd (omega arith)), ne-eqb r Telecom (λ e. absurd (omega arith)), ne-eqb r OperationCode (λ e. absurd (omega arith)), ne-eqb r RequestEntity (λ e. absurd (omega arith)), ne-eqb r RequestLabeler (λ e. absurd (omega arith)), lt-ltb 1 r (omega arith))
 
 -- ---- no role has more than there is room for
@@ -67,7 +67,7 @@ low-at k (x ∷ xs) l zero h = leb-true x k (l .0)
 low-at k (x ∷ xs) l (suc i) h = low-at k xs (l .1) i (omega arith)
 
 few-lengths : low most (mapped (λ r. length (askedAt r)) 0 roles)
-unfolding mapped askedAt askedFrom foundAt numbered
+unfolding mapped askedAt askedFrom foundAt withNumber
 few-lengths = (refl, (refl, (refl, (refl, (refl, (refl, (refl, (refl, (refl, (refl, (refl, (refl, (refl, (refl, (refl, (refl, (refl, (refl, (refl, (refl, (refl, (refl, (refl, (refl, (refl, (refl, (refl, (refl, (refl, (refl, (refl, (refl, (refl, (refl, (refl, (refl, (refl, (refl, (refl, tt)))))))))))))))))))))))))))))))))))))))
 
 pub asked-few : (r : ℕ) → length (askedAt r) ≤ most

@@ -15,7 +15,7 @@ use Rattle.table_file.specs.Accepted.{Tables}
 use Rattle.judge_draft.specs.declared.Demand.{Demand}
 use Rattle.judge_draft.specs.Drafts.{Draft, role}
 use Rattle.judge_header.specs.declared.Header.{Header}
-use Rattle.judge_procedures.specs.Procedures.{numbered, demandIn, demandOf, askedAt}
+use Rattle.judge_procedures.specs.Procedures.{withNumber, demandIn, demandOf, askedAt}
 use Rattle.judge_answers.specs.Answers.{isBroken}
 use Rattle.judge_findings.specs.Listed.{broken}
 use Rattle.judge_asked.specs.Asked.{most, padded, askedRow}
@@ -59,7 +59,7 @@ module _ (d : Draft) (h : Header) (t : Tables) (n : ℕ) (row : List ℕ) where
     pub its : row ≡ askedRow (role d n)
 
   no-zero : broken d h t n 0 ≡ false
-  unfolding broken isBroken demandOf demandIn numbered
+  unfolding broken isBroken demandOf demandIn withNumber
   no-zero = refl
 
   long : row ≡ askedRow (role d n) → length row ≡ most

@@ -16,7 +16,7 @@ use Rattle.judge_draft.specs.Drafts.{Draft, role}
 use Rattle.judge_header.specs.declared.Header.{Header}
 use Rattle.judge_listed.specs.Listed.{breaks3, breaks4}
 use Rattle.judge_listed.proofs.Spaces.{no-space}
-use Rattle.judge_procedures.specs.Procedures.{numbered, demandIn, demandOf, askedAt}
+use Rattle.judge_procedures.specs.Procedures.{withNumber, demandIn, demandOf, askedAt}
 use Rattle.judge_answers.specs.Answers.{isBroken}
 use Rattle.judge_findings.specs.Listed.{broken}
 use Rattle.judge_asked.specs.Asked.{plainRoles}
@@ -30,12 +30,12 @@ neither q a b e (inr x) = never (rw (eq-eqb q b x, or-true (eqb q a)) at e)
 
 module _ (d : Draft) (h : Header) (t : Tables) (n : ℕ) (three : Bool) (e : three ≡ breaks3 d n) (f : three ≡ false) where
   no-three : broken d h t n 3 ≡ false
-  unfolding broken isBroken demandOf demandIn numbered
+  unfolding broken isBroken demandOf demandIn withNumber
   no-three = rw (← e, f)
 
   module _ (q : ℕ) (g : q ≡ role d n) (p : Bool) (i : p ≡ isRole q plainRoles) (u : p ≡ true) where
     no-four : broken d h t n 4 ≡ false
-    unfolding broken isBroken demandOf demandIn numbered
+    unfolding broken isBroken demandOf demandIn withNumber
     no-four =
         let l = rw g at (plain-lists q (sym i ∙ u)) in
         rw (no-space d n (sym e ∙ f) (neither (role d n) Id OrganisationId (l .0)) (neither (role d n) Code OperationCode (l .1)))

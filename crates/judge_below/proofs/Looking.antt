@@ -21,7 +21,7 @@ use Rattle.judge_draft.specs.Searched.{within, searchedFrom, searched}
 use Rattle.judge_draft.specs.Drafts.{Draft, draft, elementCount, parent, first, after, is, isEmpty}
 use Rattle.judge_below.specs.Chosen.{ancestor, meets, chosen, firstOne, onlyOne, isThe}
 use Rattle.judge_tests.specs.Passing.{passes}
-use Rattle.judge_below.specs.Searching.{placed, chosenFrom}
+use Rattle.judge_below.specs.Searching.{passesBelow, chosenFrom}
 
 -- ---- an ancestor, by the branches of its loop
 module _ (d : Draft) (levels k at : ℕ) where
@@ -40,12 +40,12 @@ module _ (d : Draft) (levels k at : ℕ) where
 -- ---- whether an element is looked for
 module _ (d : Draft) (w : Wanted) (n k : ℕ) where
   module _ (a : ℕ) (g : a ≡ ancestor d (w .levels) k) where
-    pub elsewhere : (a ≡ n → ⊥) → false ≡ placed d w n k
-    unfolding placed
+    pub elsewhere : (a ≡ n → ⊥) → false ≡ passesBelow d w n k
+    unfolding passesBelow
     elsewhere h = rw (← g, ne-eqb a n h)
 
-    pub there : a ≡ n → (r : Bool) → r ≡ passes d (w .test) k → r ≡ placed d w n k
-    unfolding placed
+    pub there : a ≡ n → (r : Bool) → r ≡ passes d (w .test) k → r ≡ passesBelow d w n k
+    unfolding passesBelow
     there h r i = i ∙ rw (← g, eq-eqb a n h)
 
 -- ---- the list from one number to the next
@@ -147,15 +147,15 @@ module _ (s notes : List ℕ) (w : Wanted) (n : ℕ) where
         unfolding draft is
         other-role i = rw (← f, ne-eqb (getD notes (4 * k) 0) y i) (and-false (eqb (ancestor (draft s notes) (w .levels) k) n))
 
-        its-role : getD notes (4 * k) 0 ≡ y → wants (draft s notes) w n k ≡ placed (draft s notes) w n k
-        unfolding draft is placed
+        its-role : getD notes (4 * k) 0 ≡ y → wants (draft s notes) w n k ≡ passesBelow (draft s notes) w n k
+        unfolding draft is passesBelow
         its-role i = rw (← f, eq-eqb (getD notes (4 * k) 0) y i)
 
       module _ (from k : ℕ) (l : Next (draft s notes) w n from k) (h : k < length notes / 4) (g : getD notes (4 * k + 2) 0 < end) where
         pub next-other : (getD notes (4 * k) 0 ≡ y → ⊥) → Next (draft s notes) w n from (k + 1)
         next-other i = l ∙ rw (later k h g (other-role k i))
 
-        module _ (i : getD notes (4 * k) 0 ≡ y) (r : Bool) (u : r ≡ placed (draft s notes) w n k) where
+        module _ (i : getD notes (4 * k) 0 ≡ y) (r : Bool) (u : r ≡ passesBelow (draft s notes) w n k) where
           pub next-is : r ≡ true → At k ≡ firstOne (chosenFrom (draft s notes) w n from)
           next-is v = sym (l ∙ rw (one-more k h g (its-role k i ∙ sym u ∙ v)))
 
@@ -169,7 +169,7 @@ module _ (s notes : List ℕ) (w : Wanted) (n : ℕ) where
         pub counted-other : (getD notes (4 * k) 0 ≡ y → ⊥) → Counted found (k + 1)
         counted-other i = past (other-role k i)
 
-        module _ (i : getD notes (4 * k) 0 ≡ y) (r : Bool) (u : r ≡ placed (draft s notes) w n k) where
+        module _ (i : getD notes (4 * k) 0 ≡ y) (r : Bool) (u : r ≡ passesBelow (draft s notes) w n k) where
           pub counted-one : r ≡ true → Counted (found + 1) (k + 1)
           counted-one v = record { sum = omega (arith, l .sum, ap length (one-more k h g (its-role k i ∙ sym u ∙ v))); few = omega (arith, l .few) }
 

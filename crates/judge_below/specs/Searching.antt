@@ -12,8 +12,8 @@ use Rattle.judge_tests.specs.Passing.{passes}
 use Rattle.judge_below.specs.Chosen.{ancestor, meets}
 
 -- element k stands so many levels below n, and passes the test
-unfoldable pub placed : Draft → Wanted → ℕ → ℕ → Bool
-placed d w n k = eqb (ancestor d (w .levels) k) n and passes d (w .test) k
+unfoldable pub passesBelow : Draft → Wanted → ℕ → ℕ → Bool
+passesBelow d w n k = eqb (ancestor d (w .levels) k) n and passes d (w .test) k
 
 -- what is looked for below n, from element k on
 unfoldable pub chosenFrom : Draft → Wanted → ℕ → ℕ → List ℕ

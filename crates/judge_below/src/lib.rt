@@ -5,7 +5,7 @@ ghost use lib.ListN.{length};
 ghost use Rattle.text_scan.specs.Choice.{not};
 ghost use Rattle.judge_draft.specs.Drafts.{draft, isEmpty};
 ghost use Rattle.judge_below.specs.Chosen.{ancestor, chosen, firstOne, onlyOne, isThe, onlyKid};
-ghost use Rattle.judge_below.specs.Searching.{placed, chosenFrom};
+ghost use Rattle.judge_below.specs.Searching.{passesBelow, chosenFrom};
 use judge_draft::byte_after;
 use judge_draft::parent;
 use judge_tests::Test;
@@ -34,7 +34,7 @@ pub fn ancestor(document: &[u8], notes: &[u32], levels: usize, k: usize) -> usiz
 
 // Whether element k stands so many levels below n, and passes the test.
 fn is_placed(document: &[u8], notes: &[u32], wanted: Wanted, n: usize, k: usize) -> bool
-    ensures { λ r. ⌜ r ≡ placed (draft (now (document .entry)) (now (notes .entry))) wanted n k ⌝ }
+    ensures { λ r. ⌜ r ≡ passesBelow (draft (now (document .entry)) (now (notes .entry))) wanted n k ⌝ }
 {
     let test = wanted.test;
     if ancestor(document, notes, wanted.levels, k) == n {

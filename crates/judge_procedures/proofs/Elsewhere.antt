@@ -22,7 +22,7 @@ use Rattle.judge_addresses.specs.Addresses.{breaks24, breaks25}
 use Rattle.judge_contacts.specs.Contacts.{hasContact, hasTelecoms, breaks23, breaks26, breaks27, breaks28, breaks29, breaks30}
 use Rattle.judge_operations.specs.Operations.{hasEstablishment, breaks33, demand34, breaks37, breaks38}
 use Rattle.judge_registrations.specs.Registrations.{breaks31, breaks32, breaks35, breaks36}
-use Rattle.judge_procedures.specs.Procedures.{Procedure, procedures, numbered, demandIn, demandOf, foundAt}
+use Rattle.judge_procedures.specs.Procedures.{Procedure, procedures, withNumber, demandIn, demandOf, foundAt}
 
 -- the element's role is none of these
 abbrev NoneOf : ℕ → List ℕ → Type 0
@@ -222,12 +222,12 @@ module _ (d : Draft) (h : Header) (n : ℕ) where
   quiet : Quiet procedures
   quiet = (quiet-1, (quiet-2, (quiet-3, (quiet-4, (quiet-5, (quiet-6, (quiet-7, (quiet-8, (quiet-9, (quiet-10, (quiet-11, (quiet-12, (quiet-13, (quiet-14, (quiet-15, (quiet-16, (quiet-17, (quiet-18, (quiet-19, (quiet-20, (quiet-21, (quiet-22, (quiet-23, (quiet-24, (quiet-25, (quiet-26, (quiet-27, (quiet-28, (quiet-29, (quiet-30, (quiet-31, (quiet-32, (quiet-33, (quiet-34, (quiet-35, (quiet-36, (quiet-37, (quiet-38, tt))))))))))))))))))))))))))))))))))))))
 
-  by-number : (p : ℕ) (xs : List Procedure) → Quiet xs → numbered p xs .place (role d n) ≡ false → numbered p xs .asks d h n ≡ Nothing
-  unfolding numbered
+  by-number : (p : ℕ) (xs : List Procedure) → Quiet xs → withNumber p xs .place (role d n) ≡ false → withNumber p xs .asks d h n ≡ Nothing
+  unfolding withNumber
   by-number p [] q e = refl
   by-number p (x ∷ xs) q e = go (eqb p (x .number)) (by-number p xs (q .1)) e
     where
-      go : (t : Bool) → (numbered p xs .place (role d n) ≡ false → numbered p xs .asks d h n ≡ Nothing) → pick t x (numbered p xs) .place (role d n) ≡ false → pick t x (numbered p xs) .asks d h n ≡ Nothing
+      go : (t : Bool) → (withNumber p xs .place (role d n) ≡ false → withNumber p xs .asks d h n ≡ Nothing) → pick t x (withNumber p xs) .place (role d n) ≡ false → pick t x (withNumber p xs) .asks d h n ≡ Nothing
       go true rest f = q .0 f
       go false rest f = rest f
 

@@ -36,7 +36,7 @@ use Rattle.judge_registrations.specs.Registrations.{inUsa, breaks31, breaks32, 
 use Rattle.judge_draft.specs.Demands.{brokenIf}
 use Rattle.judge_header.specs.declared.Header.{Header}
 use Rattle.list_findings.specs.Findings.{lastProcedure}
-use Rattle.judge_procedures.specs.Procedures.{Procedure, procedures, numbered, demandIn, demandOf}
+use Rattle.judge_procedures.specs.Procedures.{Procedure, procedures, withNumber, demandIn, demandOf}
 
 abbrev smallest : Draft
 smallest = fullDraft (text "<a/>") (Root ∷ 0 ∷ 0 ∷ 4 ∷ [])
@@ -52,9 +52,9 @@ whole = refl
 
 -- each stands under its number
 fifth : (d : Draft) (h : Header) (n : ℕ) → demandOf d h 5 n ≡ brokenIf (breaks5 d h n)
-unfolding demandOf demandIn numbered
+unfolding demandOf demandIn withNumber
 fifth d h n = refl
 
 last : (d : Draft) (h : Header) (n : ℕ) → demandOf d h lastProcedure n ≡ brokenIf (breaks38 d n)
-unfolding demandOf demandIn numbered
+unfolding demandOf demandIn withNumber
 last d h n = refl

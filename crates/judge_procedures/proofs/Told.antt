@@ -14,7 +14,7 @@ use Rattle.judge_draft.specs.declared.Demand.the-variants.{Nothing}
 use Rattle.judge_draft.specs.Drafts.{Draft}
 use Rattle.judge_draft.specs.Demands.{brokenIf}
 use Rattle.judge_header.specs.declared.Header.{Header}
-use Rattle.judge_procedures.specs.Procedures.{Procedure, noProcedure, listedProcedures, headerProcedures, organisationProcedures, contactProcedures, registrationProcedures, procedures, numbered, demandIn, demandOf}
+use Rattle.judge_procedures.specs.Procedures.{Procedure, noProcedure, listedProcedures, headerProcedures, organisationProcedures, contactProcedures, registrationProcedures, procedures, withNumber, demandIn, demandOf}
 
 -- ---- the row of number k
 module _ (rows : List Procedure) (k : ℕ) where
@@ -31,8 +31,8 @@ abbrev Other : ℕ → List Procedure → Type 0
 Other p [] = Unit {0}
 Other p (x ∷ xs) = (p ≡ x .number → ⊥) × Other p xs
 
-other : (p : ℕ) (rows : List Procedure) → Other p rows → numbered p rows ≡ noProcedure
-unfolding numbered
+other : (p : ℕ) (rows : List Procedure) → Other p rows → withNumber p rows ≡ noProcedure
+unfolding withNumber
 other p [] o = refl
 other p (x ∷ xs) o = rw (ne-eqb p (x .number) (o .0)) (other p xs (o .1))
 
@@ -66,27 +66,27 @@ from k [] = true
 from k (x ∷ xs) = leb k (x .number) and from k xs
 
 module _ (k p : ℕ) where
-  past : k ≤ p → (xs ys : List Procedure) → below k xs ≡ true → numbered p (xs ++ ys) ≡ numbered p ys
-  unfolding numbered below
+  past : k ≤ p → (xs ys : List Procedure) → below k xs ≡ true → withNumber p (xs ++ ys) ≡ withNumber p ys
+  unfolding withNumber below
   past h [] ys e = refl
   past h (x ∷ xs) ys e =
       let i = ltb-true (x .number) k (and-left (ltb (x .number) k) (below k xs) e) in
       rw (ne-eqb p (x .number) (λ f. absurd (omega (arith, f)))) (past h xs ys (and-right (ltb (x .number) k) (below k xs) e))
 
-  none : p < k → (ys : List Procedure) → from k ys ≡ true → numbered p ys ≡ noProcedure
-  unfolding numbered from
+  none : p < k → (ys : List Procedure) → from k ys ≡ true → withNumber p ys ≡ noProcedure
+  unfolding withNumber from
   none h [] e = refl
   none h (y ∷ ys) e =
       let i = leb-true k (y .number) (and-left (leb k (y .number)) (from k ys) e) in
       rw (ne-eqb p (y .number) (λ f. absurd (omega (arith, f)))) (none h ys (and-right (leb k (y .number)) (from k ys) e))
 
-  short : p < k → (xs ys : List Procedure) → from k ys ≡ true → numbered p (xs ++ ys) ≡ numbered p xs
-  unfolding numbered
+  short : p < k → (xs ys : List Procedure) → from k ys ≡ true → withNumber p (xs ++ ys) ≡ withNumber p xs
+  unfolding withNumber
   short h [] ys e = none h ys e
   short h (x ∷ xs) ys e = rw (short h xs ys e)
 
 module _ (d : Draft) (h : Header) (n p : ℕ) (r : Demand) where
-  asked : (rows : List Procedure) → numbered p procedures ≡ numbered p rows → r ≡ demandIn rows d h p n → r ≡ demandOf d h p n
+  asked : (rows : List Procedure) → withNumber p procedures ≡ withNumber p rows → r ≡ demandIn rows d h p n → r ≡ demandOf d h p n
   unfolding demandOf demandIn
   asked rows e f = f ∙ ap (λ x. x .asks d h n) (sym e)
 
@@ -95,7 +95,7 @@ module _ (d : Draft) (h : Header) (n p : ℕ) (r : Demand) where
   in-listed a = asked listedProcedures (short 5 p a listedProcedures (headerProcedures ++ organisationProcedures ++ contactProcedures ++ registrationProcedures) refl)
 
   module _ (a : 5 ≤ p) where
-    after-listed : numbered p procedures ≡ numbered p (headerProcedures ++ organisationProcedures ++ contactProcedures ++ registrationProcedures)
+    after-listed : withNumber p procedures ≡ withNumber p (headerProcedures ++ organisationProcedures ++ contactProcedures ++ registrationProcedures)
     unfolding below
     after-listed = past 5 p a listedProcedures (headerProcedures ++ organisationProcedures ++ contactProcedures ++ registrationProcedures) refl
 
@@ -104,7 +104,7 @@ module _ (d : Draft) (h : Header) (n p : ℕ) (r : Demand) where
     in-header b = asked headerProcedures (after-listed ∙ short 14 p b headerProcedures (organisationProcedures ++ contactProcedures ++ registrationProcedures) refl)
 
   module _ (a : 14 ≤ p) where
-    after-header : numbered p procedures ≡ numbered p (organisationProcedures ++ contactProcedures ++ registrationProcedures)
+    after-header : withNumber p procedures ≡ withNumber p (organisationProcedures ++ contactProcedures ++ registrationProcedures)
     unfolding below
     after-header = after-listed (omega arith) ∙ past 14 p a headerProcedures (organisationProcedures ++ contactProcedures ++ registrationProcedures) refl
 
@@ -113,7 +113,7 @@ module _ (d : Draft) (h : Header) (n p : ℕ) (r : Demand) where
     in-organisations b = asked organisationProcedures (after-header ∙ short 23 p b organisationProcedures (contactProcedures ++ registrationProcedures) refl)
 
   module _ (a : 23 ≤ p) where
-    after-organisations : numbered p procedures ≡ numbered p (contactProcedures ++ registrationProcedures)
+    after-organisations : withNumber p procedures ≡ withNumber p (contactProcedures ++ registrationProcedures)
     unfolding below
     after-organisations = after-header (omega arith) ∙ past 23 p a organisationProcedures (contactProcedures ++ registrationProcedures) refl
 

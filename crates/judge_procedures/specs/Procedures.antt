@@ -140,20 +140,21 @@ procedures =
 abbrev pub noProcedure : Procedure
 noProcedure = procedure 0 (λ r. false) (λ d h n. Nothing)
 
-unfoldable pub numbered : ℕ → List Procedure → Procedure
-numbered p [] = noProcedure
-numbered p (x ∷ xs) = pick (eqb p (x .number)) x (numbered p xs)
+-- the first of these with number p
+unfoldable pub withNumber : ℕ → List Procedure → Procedure
+withNumber p [] = noProcedure
+withNumber p (x ∷ xs) = pick (eqb p (x .number)) x (withNumber p xs)
 
 -- what procedure p, one of these, demands of element n
 unfoldable pub demandIn : List Procedure → Draft → Header → ℕ → ℕ → Demand
-demandIn rows d h p n = numbered p rows .asks d h n
+demandIn rows d h p n = withNumber p rows .asks d h n
 
 unfoldable pub demandOf : Draft → Header → ℕ → ℕ → Demand
 demandOf d h p n = demandIn procedures d h p n
 
 -- procedure p can be found at an element of role r
 unfoldable pub foundAt : ℕ → ℕ → Bool
-foundAt p r = numbered p procedures .place r
+foundAt p r = withNumber p procedures .place r
 
 abbrev pub keep : Bool → ℕ → List ℕ → List ℕ
 keep true p ps = p ∷ ps

@@ -36,7 +36,7 @@ use Rattle.judge_addresses.specs.Addresses.{breaks24, breaks25}
 use Rattle.judge_contacts.specs.Contacts.{breaks23, breaks26, breaks27, breaks28, breaks29, breaks30}
 use Rattle.judge_operations.specs.Operations.{breaks33, demand34, breaks37, breaks38}
 use Rattle.judge_registrations.specs.Registrations.{breaks31, breaks32, breaks35, breaks36}
-use Rattle.judge_procedures.specs.Procedures.{Procedure, procedures, numbered, demandIn, demandOf}
+use Rattle.judge_procedures.specs.Procedures.{Procedure, procedures, withNumber, demandIn, demandOf}
 use Rattle.judge_answers.specs.Answers.{typeCode, isBroken}
 use Rattle.judge_promises.specs.Suits.{suits, asksNoTable, wantsRow, forbidsRow}
 
@@ -60,12 +60,12 @@ module _ (d : Draft) (h : Header) (n : ℕ) where
   Suit [] = Unit {0}
   Suit (x ∷ xs) = (suits (classOf (x .number)) (x .asks d h n) ≡ true) × Suit xs
 
-  suit-at : (p : ℕ) (xs : List Procedure) → Suit xs → suits (classOf p) (numbered p xs .asks d h n) ≡ true
-  unfolding numbered
+  suit-at : (p : ℕ) (xs : List Procedure) → Suit xs → suits (classOf p) (withNumber p xs .asks d h n) ≡ true
+  unfolding withNumber
   suit-at p [] s = nothing-suits (classOf p)
   suit-at p (x ∷ xs) s = go (eqb p (x .number)) refl (suit-at p xs (s .1))
     where
-      go : (t : Bool) → eqb p (x .number) ≡ t → suits (classOf p) (numbered p xs .asks d h n) ≡ true → suits (classOf p) (pick t x (numbered p xs) .asks d h n) ≡ true
+      go : (t : Bool) → eqb p (x .number) ≡ t → suits (classOf p) (withNumber p xs .asks d h n) ≡ true → suits (classOf p) (pick t x (withNumber p xs) .asks d h n) ≡ true
       go true e f =
           let i : p ≡ x .number = eqb-true p (x .number) e in
           rw i (s .0)

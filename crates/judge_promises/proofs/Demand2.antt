@@ -4,14 +4,15 @@
 use mathlib.Core.Path.{_≡_, refl, sym, _∙_, ap}
 use mathlib.Core.Bool.{true, false}
 use mathlib.Core.List.{List, [], _∷_}
-use Prim.Native.Nat.{ℕ, _-_, _*_, _/_, _<_}
+use Prim.Native.Nat.{ℕ, _-_, _*_, _/_, _<_, _≤_}
 use native.Mathlib.Omega.{arith}
-use lib.ListN.{length, take, drop}
+use lib.ListN.{length, take, drop, length-append}
 use lib.Seq.{take-append-seam}
 use Rattle.list_findings.specs.declared.Finding.{Finding}
-use Rattle.list_findings.specs.Findings.{width, records, flat}
+use Rattle.list_findings.specs.Findings.{width, records, firstRecords, flat}
 use Rattle.list_findings.specs.Lists.{has}
 use Rattle.list_findings.proofs.Records.{records-flat, length-flat}
+use Rattle.list_records.proofs.Kept.{flat-front}
 use Rattle.table_file.specs.Accepted.{tablesOf}
 use Rattle.xml_steps.specs.Reading.{elements}
 use Rattle.xml_elements.specs.Elements.{elementsOf}
@@ -27,7 +28,7 @@ use Rattle.judge_findings.specs.declared.Answer.the-variants.{Findings}
 use Rattle.judge_check.specs.Check.{checkOf}
 use Rattle.judge_check.specs.Accepted.{foundIn, Accepted}
 use Rattle.judge_check.proofs.Accepted.{accepted-check}
-use Rattle.judge_promises.specs.Right.{front, Right}
+use Rattle.judge_promises.specs.Right.{Right}
 
 -- ---- the draft that was read is in document order
 module _ (s : List ℕ) (k : ℕ) (rows : List ℕ) (e : elementsOf s ≡ elements k rows) where
@@ -77,12 +78,13 @@ module _ (s file list : List ℕ) (n : ℕ) (after : List ℕ) (a : Accepted s f
   abbrev found : List Finding
   found = foundIn s (a .rows) file
 
-  -- the list's front is what was found
-  front-is : front n after ≡ found
-  front-is =
+  -- the first n records are what was found
+  firsts-are : firstRecords after n ≡ found
+  firsts-are =
       let w : n * width ≡ length (flat found) = omega (arith, a .many, length-flat found) in
-      ap (λ x. records (take (n * width) x)) (a .holds)
-      ∙ (rw w (ap records (take-append-seam (flat found) (drop (length (flat found)) list))) ∙ records-flat found)
+      let h : n * width ≤ length after = omega (arith, ap length (a .holds), length-append (flat found) (drop (length (flat found)) list)) in
+      let e : take (n * width) after ≡ flat found = ap (take (n * width)) (a .holds) ∙ rw w (take-append-seam (flat found) (drop (length (flat found)) list)) in
+      sym (records-flat (firstRecords after n)) ∙ (ap records (flat-front after n h ∙ e) ∙ records-flat found)
 
   pub all-right : Right s file n after
   all-right =
@@ -90,8 +92,8 @@ module _ (s file list : List ℕ) (n : ℕ) (after : List ℕ) (a : Accepted s f
         count = a .count;
         rows = a .rows;
         read = a .read;
-        exactly = λ k p j. ap (has (finding (draftOf s (a .rows)) k p)) front-is ∙ found-exactly s (a .count) (a .rows) (a .read) file k p j;
-        only = λ r h. found-only s (a .count) (a .rows) (a .read) file r (sym (ap (has r) front-is) ∙ h);
+        exactly = λ k p j. ap (has (finding (draftOf s (a .rows)) k p)) firsts-are ∙ found-exactly s (a .count) (a .rows) (a .read) file k p j;
+        only = λ r h. found-only s (a .count) (a .rows) (a .read) file r (sym (ap (has r) firsts-are) ∙ h);
         empty = λ e. empty-nothing s (a .count) (a .rows) (a .read) file (no-findings found (sym (a .many) ∙ e));
         clean = λ f. a .many ∙ ap length (nothing-empty s (a .count) (a .rows) (a .read) file f);
       }

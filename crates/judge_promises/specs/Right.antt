@@ -1,12 +1,11 @@
 -- Demand 2, of the list that a check of a document under a file leaves, with n findings.
 -- Assumes nothing.
-use Prim.Native.Nat.{ℕ, _*_}
+use Prim.Native.Nat.{ℕ}
 use mathlib.Core.Path.{_≡_}
 use mathlib.Core.Bool.{Bool, true, false}
 use mathlib.Core.List.{List}
-use lib.ListN.{take}
 use Rattle.list_findings.specs.declared.Finding.{Finding}
-use Rattle.list_findings.specs.Findings.{width, records}
+use Rattle.list_findings.specs.Findings.{firstRecords}
 use Rattle.list_findings.specs.Lists.{has}
 use Rattle.table_file.specs.Accepted.{tablesOf}
 use Rattle.xml_steps.specs.Reading.{elements}
@@ -20,18 +19,14 @@ use Rattle.judge_type.specs.Drafted.{draftOf}
 abbrev pub brokenIn : List ℕ → List ℕ → List ℕ → ℕ → ℕ → Bool
 brokenIn document rows file k p = broken (draftOf document rows) (headerOf (draftOf document rows)) (tablesOf file) k p
 
--- the first n records
-abbrev pub front : ℕ → List ℕ → List Finding
-front n list = records (take (n * width) list)
-
 pub record Right (document file : List ℕ) (n : ℕ) (list : List ℕ) : Type 0 where
   -- the document was read
   pub count : ℕ
   pub rows : List ℕ
   pub read : elementsOf document ≡ elements count rows
   -- the record of a procedure and an element stands there exactly if the procedure is broken there, and no other record does
-  pub exactly : (k p : ℕ) → Judged (draftOf document rows) k p → has (finding (draftOf document rows) k p) (front n list) ≡ brokenIn document rows file k p
-  pub only : (r : Finding) → has r (front n list) ≡ true → Holds (draftOf document rows) (brokenIn document rows file) r
+  pub exactly : (k p : ℕ) → Judged (draftOf document rows) k p → has (finding (draftOf document rows) k p) (firstRecords list n) ≡ brokenIn document rows file k p
+  pub only : (r : Finding) → has r (firstRecords list n) ≡ true → Holds (draftOf document rows) (brokenIn document rows file) r
   -- n is 0 exactly if nothing is broken
   pub empty : n ≡ 0 → (k p : ℕ) → Judged (draftOf document rows) k p → brokenIn document rows file k p ≡ false
   pub clean : ((k p : ℕ) → Judged (draftOf document rows) k p → brokenIn document rows file k p ≡ false) → n ≡ 0

@@ -5,7 +5,7 @@ use Prim.Native.Nat.{ℕ, _+_}
 use mathlib.Core.Bool.{Bool, false}
 use mathlib.Core.List.{List, [], _∷_, _++_}
 use lib.Dec.{ltb, eqb}
-use lib.ListN.{length, drop, getD, set}
+use lib.ListN.{length, take, drop, getD, set}
 use Rattle.text_scan.specs.Choice.{pick, _or_, _and_, between}
 use Rattle.list_findings.specs.declared.Finding.{Finding}
 use Rattle.list_findings.specs.declared.Class.{Class}
@@ -46,6 +46,10 @@ records [] = []
 records (p ∷ []) = []
 records (p ∷ f ∷ []) = []
 records (p ∷ f ∷ e ∷ s) = record { procedure = p; first = f; after = e } ∷ records s
+
+-- the first n of them
+abbrev pub firstRecords : List ℕ → ℕ → List Finding
+firstRecords s n = take n (records s)
 
 -- records as a run of numbers
 unfoldable pub flat : List Finding → List ℕ

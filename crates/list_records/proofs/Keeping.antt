@@ -12,9 +12,9 @@ use lib.Seq.{sets, sets-eq, length-take-le}
 use Rattle.text_scan.proofs.Tests.{and-left, and-right}
 use Rattle.text_scan.proofs.Within.{inside}
 use Rattle.list_findings.specs.declared.Finding.{Finding}
-use Rattle.list_findings.specs.Findings.{width, records, recordAt}
+use Rattle.list_findings.specs.Findings.{width, records, firstRecords, recordAt}
 use Rattle.list_findings.proofs.Records.{records-here, length-records}
-use Rattle.list_records.specs.Kept.{front, fitting, keptIn}
+use Rattle.list_records.specs.Kept.{fitting, keptIn}
 
 -- ---- whether records fit
 module _ (numbers n room at : ℕ) where
@@ -33,7 +33,7 @@ module _ (numbers n room at : ℕ) where
 
 -- ---- the loop
 pub record Keeping (list : List ℕ) (n : ℕ) (old : List Finding) (at : ℕ) (room : List Finding) (i : ℕ) : Type 0 where
-  pub holds : sets old at (front list n) ≡ sets room (at + i) (take (n - i) (records (drop (i * width) list)))
+  pub holds : sets old at (firstRecords list n) ≡ sets room (at + i) (take (n - i) (records (drop (i * width) list)))
   pub long : length room ≡ length old
   pub whole : n ≤ length list / width
   pub roomy : at + n ≤ length old
@@ -87,7 +87,7 @@ module _ (list : List ℕ) (n : ℕ) (old : List Finding) (at : ℕ) (room : Lis
       let z : n - i ≡ 0 = omega arith in
       let w = l .whole in
       let v = l .roomy in
-      let y : length (front list n) ≡ n = length-take-le n (records list) (omega (arith, length-records list)) in
-      let g : at + length (front list n) ≤ length old = omega arith in
-      let q : sets old at (front list n) ≡ room = rw z at (l .holds) in
-      rw (← keep-fits) (sym q ∙ sets-eq (front list n) old at g)
+      let y : length (firstRecords list n) ≡ n = length-take-le n (records list) (omega (arith, length-records list)) in
+      let g : at + length (firstRecords list n) ≤ length old = omega arith in
+      let q : sets old at (firstRecords list n) ≡ room = rw z at (l .holds) in
+      rw (← keep-fits) (sym q ∙ sets-eq (firstRecords list n) old at g)

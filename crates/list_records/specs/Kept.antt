@@ -8,11 +8,7 @@ use lib.Dec.{leb}
 use lib.ListN.{length, take, drop}
 use Rattle.text_scan.specs.Choice.{pick, _and_}
 use Rattle.list_findings.specs.declared.Finding.{Finding}
-use Rattle.list_findings.specs.Findings.{width, records}
-
--- the first n records of a list
-abbrev pub front : List ℕ → ℕ → List Finding
-front list n = take n (records list)
+use Rattle.list_findings.specs.Findings.{width, firstRecords}
 
 -- a list of so many numbers has n records, and a room for so many has place for them from number `at` on
 abbrev pub fitting : ℕ → ℕ → ℕ → ℕ → Bool
@@ -24,4 +20,4 @@ placed room at rs = take at room ++ rs ++ drop (at + length rs) room
 
 -- the room then: as it was where they do not fit
 unfoldable pub keptIn : List ℕ → ℕ → List Finding → ℕ → List Finding
-keptIn list n room at = pick (fitting (length list) n (length room) at) (placed room at (front list n)) room
+keptIn list n room at = pick (fitting (length list) n (length room) at) (placed room at (firstRecords list n)) room

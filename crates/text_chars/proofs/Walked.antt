@@ -17,7 +17,7 @@ use Rattle.text_scan.proofs.Tests.{pick-case, and-left, and-right, within}
 use Rattle.text_scan.proofs.Within.{holds-there}
 use Rattle.text_scan.proofs.Walk as walks
 use Rattle.text_chars.specs.Utf8.{isXmlChar, Char, none, char, sound, tail, decode, charAt, widthOf, charStep, steps, mark, firstBad}
-use Rattle.text_chars.specs.Blocks.{plain, plains, badFrom, told}
+use Rattle.text_chars.specs.Blocks.{plain, plains, badFrom, badWalked}
 use Rattle.text_chars.proofs.Chars.{first}
 
 -- ---- a character that stands at a position ends within the list
@@ -109,20 +109,20 @@ module _ (s : List ℕ) (i x : ℕ) where
         let f : i + 1 + w ≡ i + suc w = omega arith in
         a ∙ (rw f at (walks.goes (steps s) (length s) (length s) i w (omega (arith, fits s i (omega arith))) (ap (charStep i) (sym e))))
 
-    pub stops : (w : ℕ) → x ≡ badFrom s i → i < end → end ≤ length s → w ≡ widthOf (charAt s i) → w ≡ 0 → told s end i ≡ x
+    pub stops : (w : ℕ) → x ≡ badFrom s i → i < end → end ≤ length s → w ≡ widthOf (charAt s i) → w ≡ 0 → badWalked s end i ≡ x
     unfolding badFrom
     stops w a h l e z =
         rw (lt-leb end i h) (sym (a ∙ walks.stops (steps s) (length s) (length s) i i (omega arith) (ap (charStep i) (sym e ∙ z))))
 
-    pub comes : x ≡ badFrom s i → end ≤ i → told s end i ≡ x
+    pub comes : x ≡ badFrom s i → end ≤ i → badWalked s end i ≡ x
     comes a h = rw (le-leb end i h) (sym a)
 
     pub room : (w : ℕ) → i < end → end ≤ length s → length s < 2 ^ 64 → w ≡ widthOf (charAt s i) → Fits w64 (i + w)
     room w h l m e = omega (arith, fits s i (omega arith))
 
     -- ---- where that walk came to r
-    pub bad : (r : ℕ) → x ≡ badFrom s i → told s end r ≡ badFrom s i → r < end → r ≡ x
+    pub bad : (r : ℕ) → x ≡ badFrom s i → badWalked s end r ≡ badFrom s i → r < end → r ≡ x
     bad r a e h = (rw (lt-leb end r h) at e) ∙ sym a
 
-    pub resumes : (r : ℕ) → x ≡ badFrom s i → told s end r ≡ badFrom s i → end ≤ r → x ≡ badFrom s r
+    pub resumes : (r : ℕ) → x ≡ badFrom s i → badWalked s end r ≡ badFrom s i → end ≤ r → x ≡ badFrom s r
     resumes r a e h = a ∙ sym (rw (le-leb end r h) at e)

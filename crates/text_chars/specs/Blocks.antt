@@ -23,5 +23,5 @@ unfoldable pub badFrom : List ℕ → ℕ → ℕ
 badFrom s i = from (steps s) (length s) (length s) i
 
 -- the first bad byte, where a walk came to r: r itself if it is before `end`, else one that is still to be found
-abbrev pub told : List ℕ → ℕ → ℕ → ℕ
-told s end r = pick (leb end r) (badFrom s r) r
+abbrev pub badWalked : List ℕ → ℕ → ℕ → ℕ
+badWalked s end r = pick (leb end r) (badFrom s r) r

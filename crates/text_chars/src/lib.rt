@@ -3,7 +3,7 @@ ghost use mathlib.Core.Path.{_≡_};
 ghost use Prim.Native.Nat.{_+_, _<_, _≤_};
 ghost use lib.ListN.{length, getD};
 ghost use Rattle.text_chars.specs.Utf8.{isXmlChar, sound, widthOf, charAt, firstBad};
-ghost use Rattle.text_chars.specs.Blocks.{plains, badFrom, told};
+ghost use Rattle.text_chars.specs.Blocks.{plains, badFrom, badWalked};
 
 pub fn is_char(c: u32) -> bool
     ensures { λ r. ⌜ r ≡ isXmlChar c ⌝ }
@@ -121,7 +121,7 @@ fn plain_block(s: &[u8], i: usize) -> bool
 // The first position from `at` on, character by character, that is not before `end`, or where no character stands.
 fn walk_to(s: &[u8], at: usize, end: usize) -> usize
     requires { ⌜ end ≤ length (now s) ⌝ }
-    ensures { λ r. ⌜ told (now (s .entry)) end r ≡ badFrom (now (s .entry)) at ⌝ }
+    ensures { λ r. ⌜ badWalked (now (s .entry)) end r ≡ badFrom (now (s .entry)) at ⌝ }
 {
     let mut i = at;
     while i < end {

@@ -14,36 +14,41 @@ use Rattle.text_chars.specs.Utf8.{isXmlChar, char, sound, tail, decode, charAt}
 use Rattle.text_encode.specs.Encode.{tailOf, encoded}
 use Rattle.text_chars.proofs.Chars.{char-most}
 
--- ---- the four forms
+-- ---- the four forms, and past the last code point none
 module _ (c : ℕ) where
-  pub form-1 : c ≤ 0x7F → encoded c ≡ c ∷ []
+  pub form-1 : c < 0x80 → encoded c ≡ c ∷ []
   unfolding encoded
-  form-1 h = rw (le-leb c 0x7F h)
+  form-1 h = rw (le-leb c 0x7F (omega arith))
 
-  pub form-2 : 0x7F < c → c ≤ 0x7FF → encoded c ≡ (0xC0 + c / 64) ∷ tailOf c ∷ []
+  pub form-2 : 0x80 ≤ c → c < 0x800 → encoded c ≡ (0xC0 + c / 64) ∷ tailOf c ∷ []
   unfolding encoded
-  form-2 h g = rw (lt-leb c 0x7F h, le-leb c 0x7FF g)
+  form-2 h g = rw (lt-leb c 0x7F h, le-leb c 0x7FF (omega arith))
 
-  pub form-3 : 0x7FF < c → c ≤ 0xFFFF → encoded c ≡ (0xE0 + c / 4096) ∷ tailOf (c / 64) ∷ tailOf c ∷ []
+  pub form-3 : 0x800 ≤ c → c < 0x10000 → encoded c ≡ (0xE0 + c / 4096) ∷ tailOf (c / 64) ∷ tailOf c ∷ []
   unfolding encoded
-  form-3 h g = rw (lt-leb c 0x7F (omega arith), lt-leb c 0x7FF h, le-leb c 0xFFFF g)
+  form-3 h g = rw (lt-leb c 0x7F (omega arith), lt-leb c 0x7FF h, le-leb c 0xFFFF (omega arith))
 
-  pub form-4 : 0xFFFF < c → encoded c ≡ (0xF0 + c / 262144) ∷ tailOf (c / 4096) ∷ tailOf (c / 64) ∷ tailOf c ∷ []
+  pub form-4 : 0x10000 ≤ c → c ≤ 0x10FFFF → encoded c ≡ (0xF0 + c / 262144) ∷ tailOf (c / 4096) ∷ tailOf (c / 64) ∷ tailOf c ∷ []
   unfolding encoded
-  form-4 h = rw (lt-leb c 0x7F (omega arith), lt-leb c 0x7FF (omega arith), lt-leb c 0xFFFF h)
+  form-4 h g = rw (lt-leb c 0x7F (omega arith), lt-leb c 0x7FF (omega arith), lt-leb c 0xFFFF h, le-leb c 0x10FFFF g)
+
+  pub no-form : 0x10FFFF < c → encoded c ≡ []
+  unfolding encoded
+  no-form h = rw (lt-leb c 0x7F (omega arith), lt-leb c 0x7FF (omega arith), lt-leb c 0xFFFF (omega arith), lt-leb c 0x10FFFF h)
 
 -- one to four bytes
-abbrev Sized : List ℕ → Type 0
-Sized xs = (1 ≤ length xs) × (length xs ≤ 4)
+abbrev Sized : ℕ → List ℕ → Type 0
+Sized c xs = (c ≤ 0x10FFFF → 1 ≤ length xs) × (length xs ≤ 4)
 
-sized : (c : ℕ) → Sized (encoded c)
+sized : (c : ℕ) → Sized c (encoded c)
 sized c =
-    inside 0x80 c (λ h. rw (form-1 c (omega arith)) (omega arith, omega arith))
-    (λ h. inside 0x800 c (λ g. rw (form-2 c h (omega arith)) (omega arith, omega arith))
-    (λ g. inside 0x10000 c (λ k. rw (form-3 c g (omega arith)) (omega arith, omega arith))
-    (λ k. rw (form-4 c k) (omega arith, omega arith))))
+    inside 0x80 c (λ h. rw (form-1 c h) (λ _. omega arith, omega arith))
+    (λ h. inside 0x800 c (λ g. rw (form-2 c h g) (λ _. omega arith, omega arith))
+    (λ g. inside 0x10000 c (λ k. rw (form-3 c g k) (λ _. omega arith, omega arith))
+    (λ k. inside 0x110000 c (λ l. rw (form-4 c k (omega arith)) (λ _. omega arith, omega arith))
+    (λ l. rw (no-form c l) (λ m. absurd (omega arith), omega arith)))))
 
-pub encoded-least : (c : ℕ) → 1 ≤ length (encoded c)
+pub encoded-least : (c : ℕ) → c ≤ 0x10FFFF → 1 ≤ length (encoded c)
 encoded-least c = sized c .0
 
 pub encoded-most : (c : ℕ) → length (encoded c) ≤ 4
@@ -97,13 +102,13 @@ module _ (c : ℕ) (e : isXmlChar c ≡ true) where
       (λ h. inside 0x800 c (two h) (λ g. inside 0x10000 c (three g) four))
     where
       one : c < 0x80 → Back rest
-      one h = rw (form-1 c (omega arith)) (back-1 _ _ _ (omega arith))
+      one h = rw (form-1 c h) (back-1 _ _ _ (omega arith))
 
       two : 0x80 ≤ c → c < 0x800 → Back rest
-      two h g = rw (form-2 c h (omega arith)) (back-2 _ _ 0 h (omega arith))
+      two h g = rw (form-2 c h g) (back-2 _ _ 0 h (omega arith))
 
       three : 0x800 ≤ c → c < 0x10000 → Back rest
-      three h g = rw (form-3 c h (omega arith)) (back-3 _ 0 0 h (omega arith))
+      three h g = rw (form-3 c h g) (back-3 _ 0 0 h (omega arith))
 
       four : 0x10000 ≤ c → Back rest
-      four h = rw (form-4 c h) (back-4 0 0 0 h)
+      four h = rw (form-4 c h (char-most c e)) (back-4 0 0 0 h)

@@ -1,3 +1,3 @@
 pub mod Forms
-pub mod Store
+pub mod Stores
 pub mod Decided

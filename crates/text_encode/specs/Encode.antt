@@ -1,4 +1,4 @@
--- The bytes of a code point in UTF-8 (RFC 3629, section 3): the first form that holds it.
+-- The bytes of a code point in UTF-8 (RFC 3629, section 3): the first form that holds it. A number past the last code point has none.
 -- Assumes nothing.
 use Prim.Native.Nat.{ℕ, _+_, _/_, _%_}
 use mathlib.Core.List.{List, [], _∷_}
@@ -14,4 +14,4 @@ encoded c =
     pick (leb c 0x7F) (c ∷ [])
     (pick (leb c 0x7FF) ((0xC0 + c / 64) ∷ tailOf c ∷ [])
     (pick (leb c 0xFFFF) ((0xE0 + c / 4096) ∷ tailOf (c / 64) ∷ tailOf c ∷ [])
-    ((0xF0 + c / 262144) ∷ tailOf (c / 4096) ∷ tailOf (c / 64) ∷ tailOf c ∷ [])))
+    (pick (leb c 0x10FFFF) ((0xF0 + c / 262144) ∷ tailOf (c / 4096) ∷ tailOf (c / 64) ∷ tailOf c ∷ []) [])))

@@ -54,7 +54,7 @@ module _ (rest : List ℕ) where
       go false q f k = rw (ne-eqb x y (λ z. eqb-false y x q (sym z)))
 
 -- ---- a character's bytes at a position
-pub character-room : (c : ℕ) → 0 + length (encoded c) ≤ 4
+character-room : (c : ℕ) → 0 + length (encoded c) ≤ 4
 character-room c = omega (arith, encoded-most c)
 
 module _ (c k : ℕ) (e : k ≡ length (encoded c)) (out : List ℕ) (w : out ≡ sets (0 ∷ 0 ∷ 0 ∷ 0 ∷ []) 0 (encoded c)) where
@@ -77,9 +77,9 @@ module _ (c k : ℕ) (e : k ≡ length (encoded c)) (out : List ℕ) (w : out �
     unfolding textBehind
     character-other f = rw (← character-bytes, ← et, f)
 
-    pub character-fits : t ≡ true → length bytes < 2 ^ 64 → Fits w64 (n + k)
-    character-fits f l =
-        omega (arith, encoded-least c, text-fits (encoded c) bytes n (omega (arith, encoded-least c)) (rw (← character-bytes) (sym et ∙ f)))
+    pub character-fits : c ≤ 0x10FFFF → t ≡ true → length bytes < 2 ^ 64 → Fits w64 (n + k)
+    character-fits m f l =
+        omega (arith, encoded-least c m, text-fits (encoded c) bytes n (omega (arith, encoded-least c m)) (rw (← character-bytes) (sym et ∙ f)))
 
 -- ---- only '&' begins a reference
 pub no-reference : (raw : List ℕ) (i : ℕ) → i < length raw → (getD raw i 0 ≡ code "&" → ⊥) → NoReference ≡ referenceAt raw i
@@ -146,7 +146,7 @@ module _ (raw bytes : List ℕ) (i n : ℕ) (l : Compared raw bytes i n) where
         compared-past m q =
             let p : (stands (encoded c) bytes n ≡ true) × (m ≡ n + length (encoded c)) = there m q in (
               gone ∙ pairs-behind (replaced 0 (drop (i + w) raw)) (encoded c) (drop n bytes) (p .0) ∙ rw (drop-drop (length (encoded c)) n bytes, ← (p .1)),
-              omega (arith, p .1, text-fits (encoded c) bytes n (omega (arith, encoded-least c)) (p .0)),
+              omega (arith, p .1, text-fits (encoded c) bytes n (omega (arith, encoded-least c code-most)) (p .0)),
             )
 
 -- ---- an attribute that says these bytes

@@ -27,4 +27,4 @@ pub decode-decided : Answers decode.Kinds.ps decode.Kinds.r decode.Reads.Post
 decode-decided κs a x y s t p q = only (p .0) (q .0)
 
 pub decode-left : Decides decode.Kinds.ps decode.Kinds.r decode.Reads.Post (λ κs x s. now (s .1 .1 .1 .0))
-decode-left κs a x y s t p q = only (rw (p .0) at (p .1)) (rw (q .0) at (q .1))
+decode-left κs a x y s t p q = only (p .1) (q .1)

@@ -1,7 +1,6 @@
 // References, where an attribute value or a run of text that may hold them ends, and what such bytes say.
 ghost use mathlib.Core.Path.{_≡_};
-ghost use Prim.Native.Nat.{_+_, _-_, _<_, _≤_};
-ghost use mathlib.Core.List.{_++_};
+ghost use Prim.Native.Nat.{_+_, _<_, _≤_};
 ghost use lib.ListN.{length, drop};
 ghost use lib.Seq.{sets};
 ghost use Rattle.text_scan.specs.Bytes.{text};
@@ -167,23 +166,23 @@ pub fn text_end(s: &[u8], at: usize) -> Found
     Found::At(s.len())
 }
 
-// Stores what the raw bytes say from `at` on, and answers how many bytes that is.
+// Stores what the raw bytes say from `at` on, as far as there is a place, and answers how many bytes that is.
 pub fn decode_at(raw: &[u8], out: &mut [u8], at: usize) -> usize
-    requires { ⌜ at + length (now raw) ≤ length (now out) ⌝ }
     ensures { λ r. ⌜ (r ≡ length (replaced 0 (now (raw .entry)))) × (now (out .exit) ≡ sets (now (out .entry)) at (replaced 0 (now (raw .entry)))) ⌝ }
 {
-    let mut n = at;
+    let start = text_encode::up_to(out.len(), at);
+    let mut n = start;
     let mut i = 0;
     while i < raw.len() {
         let b = raw[i];
         if b != b'&' {
-            out[n] = b;
+            text_encode::put(b, out, n);
             n += 1;
             i += 1;
             continue;
         }
         let Reference::Char(w, c) = reference_at(raw, i) else {
-            out[n] = b;
+            text_encode::put(b, out, n);
             n += 1;
             i += 1;
             continue;
@@ -191,13 +190,14 @@ pub fn decode_at(raw: &[u8], out: &mut [u8], at: usize) -> usize
         n += text_encode::encode(c, out, n);
         i += w;
     }
-    n - at
+    n - start
 }
 
-// Stores what the bytes of s from a to e say at the front of out, and answers how many bytes that is.
+// Stores what the bytes of s from a to e say at the front of out, as far as there is a place, and answers how many bytes that is.
 pub fn decode(s: &[u8], a: usize, e: usize, out: &mut [u8]) -> usize
-    requires { ⌜ (a ≤ e) × (e ≤ length (now s)) × (e - a ≤ length (now out)) ⌝ }
-    ensures { λ r. ⌜ (r ≡ length (decoded (now (s .entry)) a e)) × (now (out .exit) ≡ decoded (now (s .entry)) a e ++ drop r (now (out .entry))) ⌝ }
+    ensures { λ r. ⌜ (r ≡ length (decoded (now (s .entry)) a e)) × (now (out .exit) ≡ sets (now (out .entry)) 0 (decoded (now (s .entry)) a e)) ⌝ }
 {
-    decode_at(&s[a..e], out, 0)
+    let end = text_encode::up_to(s.len(), e);
+    let start = text_encode::up_to(end, a);
+    decode_at(&s[start..end], out, 0)
 }

@@ -48,7 +48,7 @@ use Rattle.xml_texts.specs.Texts.{contentOf, contentAt, contentStep, ste
 use Rattle.xml_texts.specs.Texts as texts
 use Rattle.xml_values.specs.declared.View.{View}
 use Rattle.xml_values.specs.declared.View.the-variants.{Scratch}
-use Rattle.xml_values.specs.Views.{isShown, plainOf, seen, InRange, Shows}
+use Rattle.xml_values.specs.Views.{isShown, saidIn, plainOf, seen, InRange, Shows}
 use Rattle.xml_values.proofs.Views.{shown-plain, Says, AsItStands, plain-stands, shows-front, in-range, seen-is}
 
 -- ---- the end of a tag: the row from the tag's name on ends as the row from i on
@@ -337,10 +337,6 @@ module _ (s : List ℕ) (a e : ℕ) (out₀ out : List ℕ) (n i : ℕ) (l : Sto
       pub run-less : e - j < e - i
       run-less = omega (arith, said-ahead s i (here-inside h) x ex j z, end-ahead s e j ends-behind)
 
-      pub run-room : (raw : List ℕ) → raw ≡ part s i j → e - a ≤ length out₀ → n + length raw ≤ length out
-      run-room raw q r =
-          omega (arith, ap length q, length-take (j - i) (drop i s), l .4, l .2, end-ahead s e j ends-behind, said-ahead s i (here-inside h) x ex j z)
-
       pub run-fits : (k : ℕ) → k ≡ length (replaced 0 (part s i j)) → e - a ≤ length out₀ → length out₀ < 2 ^ 64 → Fits w64 (n + k)
       run-fits k g r q = omega (arith, l .4, decoded-most s i j, end-ahead s e j ends-behind, said-ahead s i (here-inside h) x ex j z)
 
@@ -450,10 +446,10 @@ module _ (s : List ℕ) (a e : ℕ) (q : ending (contentFrom s a) ≡ EndTag e) 
       go false z = at-run (omega (arith, eqb-false a e z, end-ahead s e a q)) (textEnd s a) refl
 
 -- ---- the text is shown, and seen
-pub text-front : (s : List ℕ) (place : Place) (out : List ℕ) (p : Place) → p ≡ place → (a e : ℕ) → p ≡ At a e → (t : Bool) → t ≡ every isShown (part s a e) → (n : ℕ) (out′ : List ℕ) → t ≡ false → (n ≡ length (saidFrom s a)) × (out′ ≡ saidFrom s a ++ drop n out) → Shows s place (texts.textAt s place) out (Scratch n) out′
-text-front s place out p ep a e z t et n out′ f g =
+pub text-front : (s : List ℕ) (place : Place) (out : List ℕ) (p : Place) → p ≡ place → (a e : ℕ) → p ≡ At a e → (t : Bool) → t ≡ every isShown (part s a e) → valueLimit ≤ length out → (n : ℕ) (out′ : List ℕ) → t ≡ false → (n ≡ length (saidFrom s a)) × (out′ ≡ saidFrom s a ++ drop n out) → Shows s place (texts.textAt s place) out (Scratch n) out′
+text-front s place out p ep a e z t et room n out′ f g =
     let q : place ≡ At a e = sym ep ∙ z in
-    shows-front s place (texts.textAt s place) out p ep a e z t et n out′ f (rw q g)
+    shows-front s place (texts.textAt s place) out p ep a e z t et room n out′ f (rw q g)
 
 pub text-says : (s : List ℕ) (first : ℕ) → Says s (textPlace s first) (textOf s first)
 text-says s first = go (textPlace s first) (text-stood s first)
@@ -463,12 +459,12 @@ text-says s first = go (textPlace s first) (text-stood s first)
         (end-ahead s e a (w .1), omega (arith, end-inside s e a (w .1)), w .0, λ q. said-itself s a e (w .1) q, omega (arith, said-most s e a (w .1)))
     go Nothing w = refl
 
-module _ (s : List ℕ) (first : ℕ) (scratch : List ℕ) (view : View) (after : List ℕ) (x : Shows s (textPlace s first) (textOf s first) scratch view after) (room : valueLimit ≤ length scratch) where
+module _ (s : List ℕ) (first : ℕ) (scratch : List ℕ) (view : View) (after : List ℕ) (x : Shows s (textPlace s first) (textOf s first) scratch view after) where
   pub text-in-range : InRange s after view
-  text-in-range = in-range s (textOf s first) scratch room (textPlace s first) (text-says s first) view after x
+  text-in-range = in-range s (textOf s first) scratch (textPlace s first) (text-says s first) view after x
 
-  pub text-seen : seen s after view ≡ textOf s first
-  text-seen = seen-is s (textOf s first) scratch room (textPlace s first) (text-says s first) view after x
+  pub text-seen : seen s after view ≡ saidIn scratch (textOf s first)
+  text-seen = seen-is s (textOf s first) scratch (textPlace s first) (text-says s first) view after x
 
 module _ (s : List ℕ) (first : ℕ) (p : Place) (ep : p ≡ plainOf s (textPlace s first)) (a e : ℕ) (z : p ≡ At a e) where
   stands : AsItStands s (textOf s first) (At a e)

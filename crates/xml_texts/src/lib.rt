@@ -4,12 +4,11 @@ ghost use mathlib.Core.List.{_++_};
 ghost use Prim.Native.Nat.{_-_, _≤_};
 ghost use lib.ListN.{length, drop};
 ghost use Rattle.text_scan.specs.declared.Found.{Found};
-ghost use Rattle.xml_reader.specs.Limits.{valueLimit};
 ghost use Rattle.xml_attributes.specs.Chains.{ending};
 ghost use Rattle.xml_values.specs.Attributes.{tagFrom};
 ghost use Rattle.xml_texts.specs.Texts.{contentOf, contentAt, contentFrom, contentTo, textPlace, saidFrom, textOf};
 ghost use Rattle.xml_texts.specs.Child.{isChild};
-ghost use Rattle.xml_values.specs.Views.{viewOf, plainOf, Shows, ShowsAt};
+ghost use Rattle.xml_values.specs.Views.{viewIn, saidIn, plainOf, Shows, ShowsAt};
 use text_scan::Found;
 use xml_attributes::Tag;
 use xml_attributes::TagPart;
@@ -177,11 +176,13 @@ fn say(s: &[u8], a: usize, e: usize, out: &mut [u8]) -> usize
     n
 }
 
-// What the element that begins at `first` has as its text, shown as a part of s or in front of `out`.
+// What the element that begins at `first` has as its text, shown as a part of s or in front of `out`, which has to have room for a value.
 pub fn text_value(s: &[u8], first: usize, out: &mut [u8]) -> View
-    requires { ⌜ valueLimit ≤ length (now out) ⌝ }
     ensures { λ r. ⌜ Shows (now (s .entry)) (textPlace (now (s .entry)) first) (textOf (now (s .entry)) first) (now (out .entry)) r (now (out .exit)) ⌝ }
 {
+    if out.len() < Reader::VALUE {
+        return View::Document(0, 0);
+    }
     let Place::At(a, e) = text_place(s, first) else {
         return View::Document(0, 0);
     };
@@ -193,8 +194,7 @@ pub fn text_value(s: &[u8], first: usize, out: &mut [u8]) -> View
 
 // The text of the element that begins at `first`: that part of s, or the front of `out`.
 pub fn text<'d: 's, 's>(s: &'d [u8], first: usize, out: &'s mut [u8]) -> &'s [u8]
-    requires { ⌜ valueLimit ≤ length (now out) ⌝ }
-    ensures { λ r. ⌜ ShowsAt (s .entry) (out .entry) (viewOf (now (s .entry)) (textPlace (now (s .entry)) first) (textOf (now (s .entry)) first)) (textOf (now (s .entry)) first) r ⌝ }
+    ensures { λ r. ⌜ ShowsAt (s .entry) (out .entry) (viewIn (now (out .entry)) (now (s .entry)) (textPlace (now (s .entry)) first) (textOf (now (s .entry)) first)) (saidIn (now (out .entry)) (textOf (now (s .entry)) first)) r ⌝ }
 {
     let view = text_value(s, first, out);
     let t = &out[..];

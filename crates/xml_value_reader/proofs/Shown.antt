@@ -32,8 +32,8 @@ use Rattle.xml_values.specs.declared.View.{View}
 use Rattle.xml_values.specs.declared.View.the-variants.{Document, Scratch}
 use Rattle.xml_values.specs.Attributes.{attributePlace, attributeOf, valueAt}
 use Rattle.xml_texts.specs.Texts.{textPlace, textOf, textAt}
-use Rattle.xml_values.specs.Views.{viewOf, scratchAfter, seen, InRange, Shows}
-use Rattle.xml_values.proofs.Views.{Says, shows-nothing, in-range, seen-is, attribute-says}
+use Rattle.xml_values.specs.Views.{viewOf, viewIn, scratchAfter, seen, InRange, Shows}
+use Rattle.xml_values.proofs.Views.{view-roomy, room-says, Says, shows-nothing, in-range, seen-is, attribute-says}
 use Rattle.xml_texts.proofs.Texts.{text-says}
 use Rattle.xml_value_reader.specs.Shown.{isSound, isTag, isSoundTag, opens, endsWith, closes, isElement, placeIn, bytesIn, moved, ValueOutcome, showing, showingNothing, isReadable, shownOf, valueOf, Fills}
 use Rattle.xml_value_reader.specs.Moved.{Moves}
@@ -258,16 +258,19 @@ module _ (document scratch : List ℕ) (first after : ℕ) (name : List ℕ) whe
   module _ (v : View) (scratch′ : List ℕ) (x : Shows (part document first after) (placeIn (part document first after) name) (bytesIn (part document first after) name) scratch v scratch′) (h : valueLimit ≤ length scratch) (g : first ≤ after) (k : after ≤ length document) where
     read-range : InRange (part document first after) scratch′ v
     read-range =
-        in-range (part document first after) (bytesIn (part document first after) name) scratch h (placeIn (part document first after) name) (in-says (part document first after) name) v scratch′ x
+        in-range (part document first after) (bytesIn (part document first after) name) scratch (placeIn (part document first after) name) (in-says (part document first after) name) v scratch′ x
 
     pub read-moves : length document < 2 ^ 64 → Moves first v
     read-moves l = moves document first after g k scratch′ v read-range l
+
+    roomy : viewIn scratch (part document first after) (placeIn (part document first after) name) (bytesIn (part document first after) name) ≡ viewOf (part document first after) (placeIn (part document first after) name) (bytesIn (part document first after) name)
+    roomy = view-roomy (part document first after) (placeIn (part document first after) name) (bytesIn (part document first after) name) scratch h
 
     pub filled : (m : View) → m ≡ moved first v → Fills (shownOf document scratch first after name) m scratch′
     unfolding shownOf
     filled m e =
         rw (le-leb valueLimit (length scratch) h, le-leb first after g, le-leb after (length document) k)
-        (record { answers = e ∙ ap (moved first) (x .answers); leaves = x .leaves })
+        (record { answers = e ∙ ap (moved first) (x .answers ∙ roomy); leaves = x .leaves ∙ ap (λ w. scratchAfter w (bytesIn (part document first after) name) scratch) roomy })
 
   -- ---- what is seen of it
   abbrev Right : List ℕ → ValueOutcome → Type 0
@@ -292,11 +295,12 @@ module _ (document scratch : List ℕ) (first after : ℕ) (name : List ℕ) whe
           let b : leb first after and leb after (length document) ≡ true = and-right (leb valueLimit (length scratch)) (leb first after and leb after (length document)) q in
           let g : first ≤ after = leb-true first after (and-left (leb first after) (leb after (length document)) b) in
           let k : after ≤ length document = leb-true after (length document) (and-right (leb first after) (leb after (length document)) b) in
-          let x : Shows r (placeIn r name) (bytesIn r name) scratch here then = record { answers = refl; leaves = refl } in
+          let v : here ≡ viewIn scratch r (placeIn r name) (bytesIn r name) = sym (view-roomy r (placeIn r name) (bytesIn r name) scratch h) in
+          let x : Shows r (placeIn r name) (bytesIn r name) scratch here then = record { answers = v; leaves = ap (λ w. scratchAfter w (bytesIn r name) scratch) v } in
           let w : InRange r then here = read-range here then x h g k in (
             moved-range document first after g k then here w,
             moved-seen document first after g k then here w
-                ∙ seen-is r (bytesIn r name) scratch h (placeIn r name) (in-says r name) here then x,
+                ∙ room-says scratch (seen r then here) (bytesIn r name) (seen-is r (bytesIn r name) scratch (placeIn r name) (in-says r name) here then x) h,
           )
       go false q = ((omega arith, omega arith), refl)
 

@@ -3,7 +3,6 @@ ghost use mathlib.Core.Path.{_≡_};
 ghost use Prim.Native.Nat.{_≤_};
 ghost use lib.ListN.{length, take};
 ghost use Rattle.text_scan.specs.declared.Found.{Found};
-ghost use Rattle.xml_reader.specs.Limits.{scratchLimit};
 ghost use Rattle.xml_tags.specs.EndTags.{endTagEnd};
 ghost use Rattle.xml_values.specs.Views.{Shows, ShowsAt};
 ghost use Rattle.xml_value_reader.specs.Shown.{isSound, isTag as tagIs, opens, endsWith, isElement, placeIn, bytesIn, moved as movedBy, shownOf, valueOf, Fills};
@@ -75,7 +74,6 @@ fn is_element(r: &[u8]) -> bool
 
 // Reads the value in a range, and shows it as a part of the range or in front of the scratch area.
 fn fill_range(r: &[u8], scratch: &mut [u8], name: &[u8]) -> View
-    requires { ⌜ scratchLimit ≤ length (now scratch) ⌝ }
     ensures { λ v. ⌜ Shows (now (r .entry)) (placeIn (now (r .entry)) (now (name .entry))) (bytesIn (now (r .entry)) (now (name .entry))) (now (scratch .entry)) v (now (scratch .exit)) ⌝ }
 {
     if name.len() == 0 {

@@ -9,22 +9,24 @@ use native.Mathlib.Omega.{arith}
 use borrow.Author.Tests.{eq-eqb, ne-eqb, le-leb, lt-leb, leb-true}
 use lib.Dec.{eqb, leb}
 use lib.ListN.{length, take, drop, getD, length-append, length-drop}
-use lib.Seq.{take-at, length-take-le}
+use lib.Seq.{sets, take-at, length-take-le}
 use denote.Ref.{RefT}
 use Rattle.text_scan.specs.Choice.{pick, _and_, not}
 use Rattle.text_scan.specs.Lists.{every}
 use Rattle.text_scan.proofs.Tests.{pick-case, and-left, and-right, and-false}
+use Rattle.text_scan.proofs.Within.{inside}
 use Rattle.text_scan.proofs.Lists.{Every, every-goes, every-stops}
 use Rattle.xml_reader.specs.Limits.{valueLimit}
 use Rattle.xml_references.specs.Decoded.{part, decoded, isPlain}
 use Rattle.xml_references.proofs.Replaced.{decoded-most, plain-same}
+use Rattle.xml_references.proofs.Writes.{fronted}
 use Rattle.xml_values.specs.declared.Place.{Place}
 use Rattle.xml_values.specs.declared.Place.the-variants.{At, Nothing}
 use Rattle.xml_values.specs.declared.View.{View}
 use Rattle.xml_values.specs.declared.View.the-variants.{Document, Scratch}
 use Rattle.xml_values.specs.Attributes.{attributePlace, valueAt, attributeOf}
-use Rattle.xml_values.specs.Views.{isShown, viewOf, plainOf, scratchAfter, seen, InRange, within, Shows, standOf, ShowsAt}
-use Rattle.xml_values.proofs.Attributes.{Within, attribute-within}
+use Rattle.xml_values.specs.Views.{isShown, viewOf, viewIn, saidIn, plainOf, scratchAfter, seen, InRange, viewWithin, Shows, standOf, ShowsAt}
+use Rattle.xml_values.proofs.Attributes.{Within, attribute-within, place-room}
 
 -- ---- the loop over raw bytes
 module _ (s : List ℕ) (i : ℕ) (l : Every isShown s i) (h : i < length s) where
@@ -44,20 +46,45 @@ shown-plain [] e = refl
 shown-plain (x ∷ xs) e =
     rw (and-left (not (eqb x (code "&"))) (not (eqb x (code "<"))) (and-left (isShown x) (every isShown xs) e)) (shown-plain xs (and-right (isShown x) (every isShown xs) e))
 
+-- ---- with a scratch area that has room for a value, and with one that has not
+module _ (s : List ℕ) (place : Place) (bytes out : List ℕ) where
+  pub view-roomy : valueLimit ≤ length out → viewIn out s place bytes ≡ viewOf s place bytes
+  unfolding viewIn
+  view-roomy h = rw (le-leb valueLimit (length out) h)
+
+  view-small : length out < valueLimit → viewIn out s place bytes ≡ Document 0 0
+  unfolding viewIn
+  view-small h = rw (lt-leb valueLimit (length out) h)
+
+  -- an empty part of the document is shown of the same view
+  shows-empty : viewIn out s place bytes ≡ Document 0 0 → Shows s place bytes out (Document 0 0) out
+  unfolding scratchAfter
+  shows-empty e = record { answers = sym e; leaves = rw e }
+
+  pub shows-small : length out < valueLimit → Shows s place bytes out (Document 0 0) out
+  shows-small h = shows-empty (view-small h)
+
+-- for callers: what is said with room is what the value says
+pub room-says : (out said bytes : List ℕ) → said ≡ saidIn out bytes → valueLimit ≤ length out → said ≡ bytes
+unfolding saidIn
+room-says out said bytes e h = e ∙ rw (le-leb valueLimit (length out) h)
+
 -- ---- by the tests of the code, which was told the place p
 module _ (s : List ℕ) (place : Place) (bytes out : List ℕ) (p : Place) (ep : p ≡ place) where
   pub shows-nothing : p ≡ Nothing → Shows s place bytes out (Document 0 0) out
-  unfolding viewOf scratchAfter
-  shows-nothing z = record { answers = rw (← ep, z); leaves = rw (← ep, z) }
+  unfolding viewIn viewOf
+  shows-nothing z =
+      shows-empty s place bytes out (rw (← ep, z) (pick-case (λ v. v ≡ Document 0 0) (leb valueLimit (length out)) (Document 0 0) (Document 0 0) (λ _. refl) (λ _. refl)))
 
-  module _ (a e : ℕ) (z : p ≡ At a e) (t : Bool) (et : t ≡ every isShown (part s a e)) where
+  module _ (a e : ℕ) (z : p ≡ At a e) (t : Bool) (et : t ≡ every isShown (part s a e)) (room : valueLimit ≤ length out) where
     pub shows-part : t ≡ true → Shows s place bytes out (Document a e) out
     unfolding viewOf scratchAfter
-    shows-part f = record { answers = rw (← ep, z, ← et, f); leaves = rw (← ep, z, ← et, f) }
+    shows-part f = record { answers = rw (view-roomy s place bytes out room, ← ep, z, ← et, f); leaves = rw (view-roomy s place bytes out room, ← ep, z, ← et, f) }
 
     pub shows-front : (n : ℕ) (out′ : List ℕ) → t ≡ false → (n ≡ length bytes) × (out′ ≡ bytes ++ drop n out) → Shows s place bytes out (Scratch n) out′
     unfolding viewOf scratchAfter
-    shows-front n out′ f g = record { answers = rw (← ep, z, ← et, f, g .0); leaves = rw (← ep, z, ← et, f, ← (g .0)) (g .1) }
+    shows-front n out′ f g =
+        record { answers = rw (view-roomy s place bytes out room, ← ep, z, ← et, f, g .0); leaves = rw (view-roomy s place bytes out room, ← ep, z, ← et, f, ← (g .0)) (g .1) }
 
 -- ---- where it says the bytes there, by the same tests
 module _ (s : List ℕ) (place p : Place) (ep : p ≡ place) where
@@ -85,30 +112,36 @@ pub says-most : (s : List ℕ) (place : Place) (bytes : List ℕ) → Says s pla
 says-most s (At a e) bytes k = omega (arith, k .2, k .4)
 says-most s Nothing bytes k = rw k (omega arith)
 
-module _ (s bytes scratch : List ℕ) (room : valueLimit ≤ length scratch) where
+module _ (s bytes scratch : List ℕ) where
   -- of the view that the definition gives, and the scratch area that it leaves
-  Seen : View → Type 0
-  Seen v = InRange s (scratchAfter v bytes scratch) v × (seen s (scratchAfter v bytes scratch) v ≡ bytes)
+  Seen : View → List ℕ → Type 0
+  Seen v said = InRange s (scratchAfter v bytes scratch) v × (seen s (scratchAfter v bytes scratch) v ≡ said)
 
-  seen-at : (a e : ℕ) → Says s (At a e) bytes → (t : Bool) → every isShown (part s a e) ≡ t → Seen (pick t (Document a e) (Scratch (length bytes)))
+  seen-at : valueLimit ≤ length scratch → (a e : ℕ) → Says s (At a e) bytes → (t : Bool) → every isShown (part s a e) ≡ t → Seen (pick t (Document a e) (Scratch (length bytes))) bytes
   unfolding Seen scratchAfter
-  seen-at a e k true q = ((k .0, k .1), sym (k .3 q))
-  seen-at a e k false q =
+  seen-at room a e k true q = ((k .0, k .1), sym (k .3 q))
+  seen-at room a e k false q =
       (simp (length-append, length-drop) (omega arith), take-at bytes (drop (length bytes) scratch) (length bytes) refl)
 
-  seen-of : (place : Place) → Says s place bytes → Seen (viewOf s place bytes)
+  seen-of : valueLimit ≤ length scratch → (place : Place) → Says s place bytes → Seen (viewOf s place bytes) bytes
   unfolding viewOf Seen scratchAfter
-  seen-of (At a e) k = seen-at a e k (every isShown (part s a e)) refl
-  seen-of Nothing k = ((omega arith, omega arith), sym k)
+  seen-of room (At a e) k = seen-at room a e k (every isShown (part s a e)) refl
+  seen-of room Nothing k = ((omega arith, omega arith), sym k)
+
+  seen-in : (place : Place) → Says s place bytes → Seen (viewIn scratch s place bytes) (saidIn scratch bytes)
+  unfolding viewIn saidIn Seen scratchAfter
+  seen-in place k =
+      inside valueLimit (length scratch) (λ h. rw (lt-leb valueLimit (length scratch) h) ((omega arith, omega arith), refl))
+      (λ h. rw (le-leb valueLimit (length scratch) h) (seen-of h place k))
 
   module _ (place : Place) (k : Says s place bytes) (view : View) (after : List ℕ) (x : Shows s place bytes scratch view after) where
     pub in-range : InRange s after view
     unfolding Seen
-    in-range = rw (x .leaves, x .answers) (seen-of place k .0)
+    in-range = rw (x .leaves, x .answers) (seen-in place k .0)
 
-    pub seen-is : seen s after view ≡ bytes
+    pub seen-is : seen s after view ≡ saidIn scratch bytes
     unfolding Seen
-    seen-is = rw (x .leaves, x .answers) (seen-of place k .1)
+    seen-is = rw (x .leaves, x .answers) (seen-in place k .1)
 
 -- ---- for callers: a value that stands within and says the bytes there
 abbrev pub AsItStands : List ℕ → List ℕ → Place → Type 0
@@ -152,30 +185,30 @@ module _ (s scratch : List ℕ) (view : View) (r : InRange s scratch view) where
 -- ---- a view in range, and one that is not
 module _ (m k : ℕ) (view : View) where
   module _ (a e : ℕ) (z : view ≡ Document a e) where
-    pub ends-first : e < a → Document 0 0 ≡ within m k view
-    unfolding within
+    pub ends-first : e < a → Document 0 0 ≡ viewWithin m k view
+    unfolding viewWithin
     ends-first h = rw (z, lt-leb a e h)
 
     module _ (h : a ≤ e) where
-      pub ends-outside : m < e → Document 0 0 ≡ within m k view
-      unfolding within
+      pub ends-outside : m < e → Document 0 0 ≡ viewWithin m k view
+      unfolding viewWithin
       ends-outside g = rw (z, le-leb a e h, lt-leb e m g)
 
-      pub part-within : e ≤ m → Document a e ≡ within m k view
-      unfolding within
+      pub part-within : e ≤ m → Document a e ≡ viewWithin m k view
+      unfolding viewWithin
       part-within g = rw (z, le-leb a e h, le-leb e m g)
 
   module _ (n : ℕ) (z : view ≡ Scratch n) where
-    pub front-outside : k < n → Document 0 0 ≡ within m k view
-    unfolding within
+    pub front-outside : k < n → Document 0 0 ≡ viewWithin m k view
+    unfolding viewWithin
     front-outside h = rw (z, lt-leb n k h)
 
-    pub front-within : n ≤ k → Scratch n ≡ within m k view
-    unfolding within
+    pub front-within : n ≤ k → Scratch n ≡ viewWithin m k view
+    unfolding viewWithin
     front-within h = rw (z, le-leb n k h)
 
-pub within-range : (s scratch : List ℕ) (view : View) → InRange s scratch (within (length s) (length scratch) view)
-unfolding within
+pub within-range : (s scratch : List ℕ) (view : View) → InRange s scratch (viewWithin (length s) (length scratch) view)
+unfolding viewWithin
 within-range s scratch (Document a e) = go (leb a e) refl (leb e (length s)) refl
   where
     go : (t : Bool) → leb a e ≡ t → (u : Bool) → leb e (length s) ≡ u → InRange s scratch (pick (t and u) (Document a e) (Document 0 0))
@@ -185,17 +218,17 @@ within-range s scratch (Document a e) = go (leb a e) refl (leb e (length s)) ref
 within-range s scratch (Scratch n) =
     pick-case (InRange s scratch) (leb n (length scratch)) (Scratch n) (Document 0 0) (λ e. leb-true n (length scratch) e) (λ _. (omega arith, omega arith))
 
-pub within-same : (s scratch : List ℕ) (view : View) → InRange s scratch view → within (length s) (length scratch) view ≡ view
-unfolding within
+pub within-same : (s scratch : List ℕ) (view : View) → InRange s scratch view → viewWithin (length s) (length scratch) view ≡ view
+unfolding viewWithin
 within-same s scratch (Document a e) r = rw (le-leb a e (r .0), le-leb e (length s) (r .1))
 within-same s scratch (Scratch n) r = rw (le-leb n (length scratch) r)
 
 -- the document is handed on as e
-module _ (d e o : RefT (List ℕ)) (q : e ≡ d) (view v : View) (w : v ≡ within (length (d .now)) (length (o .now)) view) where
+module _ (d e o : RefT (List ℕ)) (q : e ≡ d) (view v : View) (w : v ≡ viewWithin (length (d .now)) (length (o .now)) view) where
   pub same-range : InRange (e .now) (o .now) v
   same-range = rw (q, w) (within-range (d .now) (o .now) view)
 
-  pub same-shown : (r : RefT (List ℕ)) → ShowsAt e o v (seen (e .now) (o .now) v) r → ShowsAt d o (within (length (d .now)) (length (o .now)) view) (seen (d .now) (o .now) (within (length (d .now)) (length (o .now)) view)) r
+  pub same-shown : (r : RefT (List ℕ)) → ShowsAt e o v (seen (e .now) (o .now) v) r → ShowsAt d o (viewWithin (length (d .now)) (length (o .now)) view) (seen (d .now) (o .now) (viewWithin (length (d .now)) (length (o .now)) view)) r
   same-shown r x = rw (← w, ← q) x
 
 -- what is shown of a scratch area t, lent on from o, is shown of o
@@ -203,16 +236,17 @@ same-stand : (d t o : RefT (List ℕ)) (view : View) → t .ptr ≡ o .ptr → s
 same-stand d t o (Document a e) q = refl
 same-stand d t o (Scratch n) q = q
 
-pub shown-of : (d t : RefT (List ℕ)) (view : View) (r : RefT (List ℕ)) → ShowsAt d t (within (length (d .now)) (length (t .now)) view) (seen (d .now) (t .now) (within (length (d .now)) (length (t .now)) view)) r → InRange (d .now) (t .now) view → (o : RefT (List ℕ)) (right : View) (said : List ℕ) → t .ptr ≡ o .ptr → view ≡ right → seen (d .now) (t .now) view ≡ said → ShowsAt d o right said r
+pub shown-of : (d t : RefT (List ℕ)) (view : View) (r : RefT (List ℕ)) → ShowsAt d t (viewWithin (length (d .now)) (length (t .now)) view) (seen (d .now) (t .now) (viewWithin (length (d .now)) (length (t .now)) view)) r → InRange (d .now) (t .now) view → (o : RefT (List ℕ)) (right : View) (said : List ℕ) → t .ptr ≡ o .ptr → view ≡ right → seen (d .now) (t .now) view ≡ said → ShowsAt d o right said r
 shown-of d t view r x w o right said q v b =
-    let e : within (length (d .now)) (length (t .now)) view ≡ view = within-same (d .now) (t .now) view w in
+    let e : viewWithin (length (d .now)) (length (t .now)) view ≡ view = within-same (d .now) (t .now) view w in
     record { says = x .says ∙ ap (seen (d .now) (t .now)) e ∙ b; stands = x .stands ∙ ap (standOf d t) e ∙ same-stand d t o view q ∙ ap (standOf d o) v }
 
 -- ---- an attribute's value is shown, and seen
-pub attribute-front : (s : List ℕ) (place : Place) (out : List ℕ) (p : Place) → p ≡ place → (a e : ℕ) → p ≡ At a e → (t : Bool) → t ≡ every isShown (part s a e) → (n : ℕ) (out′ : List ℕ) → t ≡ false → (n ≡ length (decoded s a e)) × (out′ ≡ decoded s a e ++ drop n out) → Shows s place (valueAt s place) out (Scratch n) out′
-attribute-front s place out p ep a e z t et n out′ f g =
-    let q : place ≡ At a e = sym ep ∙ z in
-    shows-front s place (valueAt s place) out p ep a e z t et n out′ f (rw q g)
+pub attribute-front : (s : List ℕ) (first : ℕ) (name out : List ℕ) (p : Place) → p ≡ attributePlace s first name → (a e : ℕ) → p ≡ At a e → (t : Bool) → t ≡ every isShown (part s a e) → valueLimit ≤ length out → (n : ℕ) (out′ : List ℕ) → t ≡ false → (n ≡ length (decoded s a e)) × (out′ ≡ sets out 0 (decoded s a e)) → Shows s (attributePlace s first name) (attributeOf s first name) out (Scratch n) out′
+attribute-front s first name out p ep a e z t et room n out′ f g =
+    let q : attributePlace s first name ≡ At a e = sym ep ∙ z in
+    let w : (n ≡ length (decoded s a e)) × (out′ ≡ decoded s a e ++ drop n out) = fronted s out out′ a e n (place-room s first name p ep a e z out room) g in
+    shows-front s (attributePlace s first name) (attributeOf s first name) out p ep a e z t et room n out′ f (rw q w)
 
 pub attribute-says : (s : List ℕ) (first : ℕ) (name : List ℕ) → Says s (attributePlace s first name) (attributeOf s first name)
 attribute-says s first name = go (attributePlace s first name) (attribute-within s first name)
@@ -221,12 +255,12 @@ attribute-says s first name = go (attributePlace s first name) (attribute-within
     go (At a e) w = (w .0, w .1, w .2, λ q. plain-same (part s a e) (shown-plain (part s a e) q), decoded-most s a e)
     go Nothing w = refl
 
-module _ (s : List ℕ) (first : ℕ) (name scratch : List ℕ) (view : View) (after : List ℕ) (x : Shows s (attributePlace s first name) (attributeOf s first name) scratch view after) (room : valueLimit ≤ length scratch) where
+module _ (s : List ℕ) (first : ℕ) (name scratch : List ℕ) (view : View) (after : List ℕ) (x : Shows s (attributePlace s first name) (attributeOf s first name) scratch view after) where
   pub attribute-in-range : InRange s after view
-  attribute-in-range = in-range s (attributeOf s first name) scratch room (attributePlace s first name) (attribute-says s first name) view after x
+  attribute-in-range = in-range s (attributeOf s first name) scratch (attributePlace s first name) (attribute-says s first name) view after x
 
-  pub attribute-seen : seen s after view ≡ attributeOf s first name
-  attribute-seen = seen-is s (attributeOf s first name) scratch room (attributePlace s first name) (attribute-says s first name) view after x
+  pub attribute-seen : seen s after view ≡ saidIn scratch (attributeOf s first name)
+  attribute-seen = seen-is s (attributeOf s first name) scratch (attributePlace s first name) (attribute-says s first name) view after x
 
 -- ---- an attribute that says the bytes where it stands
 module _ (s : List ℕ) (first : ℕ) (name : List ℕ) (p : Place) where

@@ -1,14 +1,12 @@
 // The values of a tag's attributes, of documents that were read: nothing is judged again. And how a value is shown.
 ghost use mathlib.Core.Path.{_≡_};
 ghost use mathlib.Core.List.{[], _∷_};
-ghost use Prim.Native.Nat.{_≤_};
 ghost use lib.ListN.{length};
 ghost use Rattle.text_scan.specs.Choice.{_and_, not};
 ghost use Rattle.text_scan.specs.Lists.{every};
-ghost use Rattle.xml_reader.specs.Limits.{valueLimit};
 ghost use Rattle.xml_names.specs.Names.{nameEnd};
 ghost use Rattle.xml_values.specs.Attributes.{nameAfter, isBare, attributePlace, attributeOf, isListed, hasOther};
-ghost use Rattle.xml_values.specs.Views.{isShown, viewOf, plainOf, seen, InRange, within, Shows, ShowsAt};
+ghost use Rattle.xml_values.specs.Views.{isShown, viewIn, saidIn, plainOf, seen, InRange, viewWithin, Shows, ShowsAt};
 use xml_attributes::TagPart;
 use xml_reader::Reader;
 
@@ -145,11 +143,13 @@ pub fn plain_attribute(s: &[u8], first: usize, name: &[u8]) -> Place
     Place::Nothing
 }
 
-// What the attribute `name` of the tag that begins at `first` says, shown as a part of s or in front of `out`.
+// What the attribute `name` of the tag that begins at `first` says, shown as a part of s or in front of `out`, which has to have room for a value.
 pub fn attribute_value(s: &[u8], first: usize, name: &[u8], out: &mut [u8]) -> View
-    requires { ⌜ valueLimit ≤ length (now out) ⌝ }
     ensures { λ r. ⌜ Shows (now (s .entry)) (attributePlace (now (s .entry)) first (now (name .entry))) (attributeOf (now (s .entry)) first (now (name .entry))) (now (out .entry)) r (now (out .exit)) ⌝ }
 {
+    if out.len() < Reader::VALUE {
+        return View::Document(0, 0);
+    }
     let Place::At(a, e) = attribute_place(s, first, name) else {
         return View::Document(0, 0);
     };
@@ -178,7 +178,7 @@ fn either<'r>(document: &'r [u8], scratch: &'r [u8], view: View) -> &'r [u8]
 
 // A view of so many bytes of the document and of the scratch area: an empty part of the document where its numbers are out of range.
 fn in_range(view: View, document: usize, scratch: usize) -> View
-    ensures { λ r. ⌜ r ≡ within document scratch view ⌝ }
+    ensures { λ r. ⌜ r ≡ viewWithin document scratch view ⌝ }
 {
     match view {
         View::Document(first, after) => {
@@ -201,7 +201,7 @@ fn in_range(view: View, document: usize, scratch: usize) -> View
 
 // The bytes that are shown: a part of the document or of the scratch area, which have lifetimes of their own.
 pub fn shown<'d: 's, 's>(document: &'d [u8], scratch: &'s [u8], view: View) -> &'s [u8]
-    ensures { λ r. ⌜ ShowsAt (document .entry) (scratch .entry) (within (length (now (document .entry))) (length (now (scratch .entry))) view) (seen (now (document .entry)) (now (scratch .entry)) (within (length (now (document .entry))) (length (now (scratch .entry))) view)) r ⌝ }
+    ensures { λ r. ⌜ ShowsAt (document .entry) (scratch .entry) (viewWithin (length (now (document .entry))) (length (now (scratch .entry))) view) (seen (now (document .entry)) (now (scratch .entry)) (viewWithin (length (now (document .entry))) (length (now (scratch .entry))) view)) r ⌝ }
 {
     let v = in_range(view, document.len(), scratch.len());
     let d = shorter(document, scratch);
@@ -210,8 +210,7 @@ pub fn shown<'d: 's, 's>(document: &'d [u8], scratch: &'s [u8], view: View) -> &
 
 // What the attribute `name` of the tag that begins at `first` says: that part of s, or the front of `out`.
 pub fn attribute<'d: 's, 's>(s: &'d [u8], first: usize, name: &[u8], out: &'s mut [u8]) -> &'s [u8]
-    requires { ⌜ valueLimit ≤ length (now out) ⌝ }
-    ensures { λ r. ⌜ ShowsAt (s .entry) (out .entry) (viewOf (now (s .entry)) (attributePlace (now (s .entry)) first (now (name .entry))) (attributeOf (now (s .entry)) first (now (name .entry)))) (attributeOf (now (s .entry)) first (now (name .entry))) r ⌝ }
+    ensures { λ r. ⌜ ShowsAt (s .entry) (out .entry) (viewIn (now (out .entry)) (now (s .entry)) (attributePlace (now (s .entry)) first (now (name .entry))) (attributeOf (now (s .entry)) first (now (name .entry)))) (saidIn (now (out .entry)) (attributeOf (now (s .entry)) first (now (name .entry)))) r ⌝ }
 {
     let view = attribute_value(s, first, name, out);
     let t = &out[..];

@@ -1,6 +1,6 @@
 -- `judge_draft::attribute_begins` meets its contract.
 -- Assumes nothing.
-use Rattle.xml_values.proofs.Views.{plain-attribute-ahead, plain-attribute-inside, plain-attribute-says}
+use Rattle.xml_values.proofs.Views.{room-says, plain-attribute-ahead, plain-attribute-inside, plain-attribute-says}
 use Rattle.judge_draft.proofs.Values.{attribute-begins}
 use borrow.Author.Needs.{needs}
 use Rattle.judge_draft.proofs.attribute_begins.Statement.{statement}
@@ -28,7 +28,7 @@ begins-with-requires : tie.Need-begins-with-requires
 begins-with-requires c κs = search needs
 
 returns : tie.Need-returns
-returns c = search (attribute-begins)
+returns c = search (attribute-begins, room-says, needs)
 
 sub-begins-with : tie.Need-sub-begins-with
 sub-begins-with c = search plain-attribute-ahead

@@ -1,6 +1,6 @@
 -- `judge_draft::attribute_has` meets its contract.
 -- Assumes nothing.
-use Rattle.xml_values.proofs.Views.{plain-attribute-ahead, plain-attribute-inside, plain-attribute-says}
+use Rattle.xml_values.proofs.Views.{room-says, plain-attribute-ahead, plain-attribute-inside, plain-attribute-says}
 use Rattle.judge_draft.proofs.Values.{attribute-formed}
 use borrow.Author.Needs.{needs}
 use Rattle.judge_draft.proofs.attribute_has.Statement.{statement}
@@ -28,7 +28,7 @@ has-form-requires : tie.Need-has-form-requires
 has-form-requires c κs = search needs
 
 returns : tie.Need-returns
-returns c = search attribute-formed
+returns c = search (attribute-formed, room-says, needs)
 
 sub-has-form : tie.Need-sub-has-form
 sub-has-form c = search plain-attribute-ahead

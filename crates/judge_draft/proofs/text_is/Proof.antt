@@ -1,5 +1,6 @@
 -- `judge_draft::text_is` meets its contract.
 -- Assumes nothing.
+use Rattle.xml_values.proofs.Views.{room-says}
 use Rattle.xml_texts.proofs.Texts.{plain-text-ahead, plain-text-inside, plain-text-says}
 use Rattle.judge_draft.proofs.Values.{text-equals}
 use borrow.Author.Needs.{needs}
@@ -28,7 +29,7 @@ same-requires : tie.Need-same-requires
 same-requires c κs = search needs
 
 returns : tie.Need-returns
-returns c = search text-equals
+returns c = search (text-equals, room-says, needs)
 
 sub-same : tie.Need-sub-same
 sub-same c = search plain-text-ahead

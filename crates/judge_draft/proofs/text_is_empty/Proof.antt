@@ -1,8 +1,10 @@
 -- `judge_draft::text_is_empty` meets its contract.
 -- Assumes nothing.
+use mathlib.Core.Path.{ap}
+use Rattle.xml_values.proofs.Views.{room-says}
 use Rattle.judge_draft.specs.Drafts.{isEmpty}
 use Rattle.xml_texts.proofs.Texts.{plain-text-ahead, plain-text-inside, plain-text-says}
-use Rattle.judge_draft.proofs.Values.{text-tested, text-missing}
+use Rattle.judge_draft.proofs.Values.{text-read, text-missing}
 use borrow.Author.Needs.{needs}
 use Rattle.judge_draft.proofs.text_is_empty.Statement.{statement}
 use Rattle.judge_draft.proofs.text_is_empty.Tie as tie
@@ -26,7 +28,7 @@ text-requires : tie.Need-text-requires
 text-requires c κs = search needs
 
 returns : tie.Need-returns
-returns c = search (text-tested isEmpty)
+returns c = ap isEmpty (text-read _ _ _ _ (search needs) _ (room-says _ _ _ (c .before .text .ensures .says) (search needs)))
 
 sub-same : tie.Need-sub-same
 sub-same c = search plain-text-ahead

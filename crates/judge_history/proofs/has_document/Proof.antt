@@ -1,5 +1,6 @@
 -- `judge_history::has_document` meets its contract.
 -- Assumes nothing.
+use Rattle.xml_values.proofs.Views.{room-says}
 use Rattle.judge_history.proofs.Asked.{document-asked}
 use borrow.Author.Needs.{needs}
 use Rattle.judge_history.proofs.has_document.Statement.{statement}
@@ -18,7 +19,7 @@ has-document-requires : tie.Need-has-document-requires
 has-document-requires c κs = search needs
 
 returns : tie.Need-returns
-returns c = search document-asked
+returns c = search (document-asked, room-says, needs)
 
 pub has-document-spec : {M : Type 1} → statement M
 has-document-spec =

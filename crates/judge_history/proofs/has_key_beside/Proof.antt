@@ -1,6 +1,6 @@
 -- `judge_history::has_key_beside` meets its contract.
 -- Assumes nothing.
-use Rattle.xml_values.proofs.Views.{plain-attribute-ahead, plain-attribute-inside, plain-attribute-says}
+use Rattle.xml_values.proofs.Views.{room-says, plain-attribute-ahead, plain-attribute-inside, plain-attribute-says}
 use Rattle.judge_history.proofs.Asked.{beside-asked, set-told}
 use borrow.Author.Needs.{needs}
 use Rattle.judge_history.proofs.has_key_beside.Statement.{statement}
@@ -29,10 +29,10 @@ attribute-requires : tie.Need-attribute-requires
 attribute-requires c κs = search needs
 
 is-other-key-requires : tie.Need-is-other-key-requires
-is-other-key-requires c κs = search set-told
+is-other-key-requires c κs = search (set-told, room-says, needs)
 
 returns : tie.Need-returns
-returns c = search beside-asked
+returns c = search (beside-asked, room-says, needs)
 
 sub-is-other-key : tie.Need-sub-is-other-key
 sub-is-other-key c = search plain-attribute-ahead

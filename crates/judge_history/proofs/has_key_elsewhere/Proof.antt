@@ -1,6 +1,6 @@
 -- `judge_history::has_key_elsewhere` meets its contract.
 -- Assumes nothing.
-use Rattle.xml_values.proofs.Views.{plain-attribute-ahead, plain-attribute-inside, plain-attribute-says}
+use Rattle.xml_values.proofs.Views.{room-says, plain-attribute-ahead, plain-attribute-inside, plain-attribute-says}
 use Rattle.judge_history.proofs.Asked.{key-asked}
 use borrow.Author.Needs.{needs}
 use Rattle.judge_history.proofs.has_key_elsewhere.Statement.{statement}
@@ -32,7 +32,7 @@ has-key-outside-requires : tie.Need-has-key-outside-requires
 has-key-outside-requires c κs = search needs
 
 returns : tie.Need-returns
-returns c = search key-asked
+returns c = search (key-asked, room-says, needs)
 
 sub-has-key-outside : tie.Need-sub-has-key-outside
 sub-has-key-outside c = search plain-attribute-ahead

@@ -1,6 +1,6 @@
 -- `judge_history::has_key_outside` meets its contract.
 -- Assumes nothing.
-use Rattle.xml_values.proofs.Views.{plain-attribute-ahead, plain-attribute-inside, plain-attribute-says}
+use Rattle.xml_values.proofs.Views.{room-says, plain-attribute-ahead, plain-attribute-inside, plain-attribute-says}
 use Rattle.judge_history.proofs.Asked.{set-asked, set-served}
 use borrow.Author.Needs.{needs}
 use Rattle.judge_history.proofs.has_key_outside.Statement.{statement}
@@ -29,10 +29,10 @@ attribute-requires : tie.Need-attribute-requires
 attribute-requires c κs = search needs
 
 some-row-requires : tie.Need-some-row-requires
-some-row-requires c κs = search set-served
+some-row-requires c κs = search (set-served, room-says, needs)
 
 returns : tie.Need-returns
-returns c = search set-asked
+returns c = search (set-asked, room-says, needs)
 
 sub-some-row : tie.Need-sub-some-row
 sub-some-row c = search plain-attribute-ahead

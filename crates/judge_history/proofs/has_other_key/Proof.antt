@@ -1,6 +1,6 @@
 -- `judge_history::has_other_key` meets its contract.
 -- Assumes nothing.
-use Rattle.xml_values.proofs.Views.{plain-attribute-ahead, plain-attribute-inside, plain-attribute-says}
+use Rattle.xml_values.proofs.Views.{room-says, plain-attribute-ahead, plain-attribute-inside, plain-attribute-says}
 use Rattle.judge_history.proofs.Asked.{other-asked}
 use borrow.Author.Needs.{needs}
 use Rattle.judge_history.proofs.has_other_key.Statement.{statement}
@@ -32,7 +32,7 @@ has-key-beside-requires : tie.Need-has-key-beside-requires
 has-key-beside-requires c κs = search needs
 
 returns : tie.Need-returns
-returns c = search other-asked
+returns c = search (other-asked, room-says, needs)
 
 sub-has-key-beside : tie.Need-sub-has-key-beside
 sub-has-key-beside c = search plain-attribute-ahead

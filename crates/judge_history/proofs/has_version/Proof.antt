@@ -1,5 +1,6 @@
 -- `judge_history::has_version` meets its contract.
 -- Assumes nothing.
+use Rattle.xml_values.proofs.Views.{room-says}
 use Rattle.judge_history.proofs.Asked.{version-asked}
 use borrow.Author.Needs.{needs}
 use Rattle.judge_history.proofs.has_version.Statement.{statement}
@@ -27,7 +28,7 @@ has-version-requires : tie.Need-has-version-requires
 has-version-requires c κs = search needs
 
 returns : tie.Need-returns
-returns c = search version-asked
+returns c = search (version-asked, room-says, needs)
 
 pub has-version-spec : {M : Type 1} → statement M
 has-version-spec =

@@ -1,5 +1,6 @@
 -- `judge_lookup::fill_keys_of` meets its contract.
 -- Assumes nothing.
+use Rattle.xml_values.proofs.Views.{room-says}
 use Rattle.judge_lookup.proofs.Laws.{keys-filled}
 use borrow.Author.Needs.{needs}
 use Rattle.judge_lookup.proofs.fill_keys_of.Statement.{statement}
@@ -24,7 +25,7 @@ same-length : tie.Need-same-length
 same-length c = search needs
 
 returns : tie.Need-returns
-returns c = (search keys-filled, search needs)
+returns c = (search (keys-filled, room-says, needs), search needs)
 
 pub fill-keys-of-spec : {M : Type 1} → statement M
 fill-keys-of-spec =

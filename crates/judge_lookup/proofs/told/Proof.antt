@@ -1,5 +1,6 @@
 -- `judge_lookup::told` meets its contract.
 -- Assumes nothing.
+use Rattle.xml_values.proofs.Views.{room-says}
 use Rattle.judge_lookup.proofs.Laws.{keys-told}
 use borrow.Author.Needs.{needs}
 use Rattle.judge_lookup.proofs.told.Statement.{statement}
@@ -24,7 +25,7 @@ keys-of-requires : tie.Need-keys-of-requires
 keys-of-requires c κs = search needs
 
 returns : tie.Need-returns
-returns c = search keys-told
+returns c = search (keys-told, room-says, needs)
 
 pub told-spec : {M : Type 1} → statement M
 told-spec =

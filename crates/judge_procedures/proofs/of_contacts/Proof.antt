@@ -3,7 +3,7 @@
 use mathlib.Core.Path.{refl}
 use Rattle.judge_addresses.specs.Addresses.{breaks24, breaks25}
 use Rattle.judge_contacts.specs.Contacts.{breaks23, breaks26, breaks27, breaks28, breaks29, breaks30}
-use Rattle.judge_procedures.specs.Procedures.{contactProcedures, numbered, demandIn}
+use Rattle.judge_procedures.specs.Procedures.{contactProcedures, withNumber, demandIn}
 use Rattle.judge_procedures.proofs.Told.{by-test, no-contact}
 use borrow.Author.Needs.{needs}
 use Rattle.judge_procedures.proofs.of_contacts.Statement.{statement}
@@ -58,35 +58,35 @@ broken-if-requires-8 : tie.Need-broken-if-requires-8
 broken-if-requires-8 c κs = search needs
 
 returns : tie.Need-returns
-unfolding demandIn numbered
+unfolding demandIn withNumber
 returns c = search (by-test contactProcedures 23 (λ d h n. breaks23 d n) (λ d h n. refl))
 
 returns-2 : tie.Need-returns-2
-unfolding demandIn numbered
+unfolding demandIn withNumber
 returns-2 c = search (by-test contactProcedures 24 (λ d h n. breaks24 d n) (λ d h n. refl))
 
 returns-3 : tie.Need-returns-3
-unfolding demandIn numbered
+unfolding demandIn withNumber
 returns-3 c = search (by-test contactProcedures 25 (λ d h n. breaks25 d n) (λ d h n. refl))
 
 returns-4 : tie.Need-returns-4
-unfolding demandIn numbered
+unfolding demandIn withNumber
 returns-4 c = search (by-test contactProcedures 26 (λ d h n. breaks26 d n) (λ d h n. refl))
 
 returns-5 : tie.Need-returns-5
-unfolding demandIn numbered
+unfolding demandIn withNumber
 returns-5 c = search (by-test contactProcedures 27 (λ d h n. breaks27 d n) (λ d h n. refl))
 
 returns-6 : tie.Need-returns-6
-unfolding demandIn numbered
+unfolding demandIn withNumber
 returns-6 c = search (by-test contactProcedures 28 (λ d h n. breaks28 d n) (λ d h n. refl))
 
 returns-7 : tie.Need-returns-7
-unfolding demandIn numbered
+unfolding demandIn withNumber
 returns-7 c = search (by-test contactProcedures 29 (λ d h n. breaks29 d n) (λ d h n. refl))
 
 returns-8 : tie.Need-returns-8
-unfolding demandIn numbered
+unfolding demandIn withNumber
 returns-8 c = search (by-test contactProcedures 30 (λ d h n. breaks30 d n) (λ d h n. refl))
 
 returns-9 : tie.Need-returns-9

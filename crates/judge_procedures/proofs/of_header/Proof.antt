@@ -2,7 +2,7 @@
 -- Assumes nothing.
 use mathlib.Core.Path.{refl}
 use Rattle.judge_root.specs.Root.{breaks5, demand6, breaks7, demand8, breaks9, breaks10, breaks11, demand12, breaks13}
-use Rattle.judge_procedures.specs.Procedures.{headerProcedures, numbered, demandIn}
+use Rattle.judge_procedures.specs.Procedures.{headerProcedures, withNumber, demandIn}
 use Rattle.judge_procedures.proofs.Told.{by-test, by-row, no-header}
 use borrow.Author.Needs.{needs}
 use Rattle.judge_procedures.proofs.of_header.Statement.{statement}
@@ -54,39 +54,39 @@ broken-if-requires-6 : tie.Need-broken-if-requires-6
 broken-if-requires-6 c κs = search needs
 
 returns : tie.Need-returns
-unfolding demandIn numbered
+unfolding demandIn withNumber
 returns c = search (by-test headerProcedures 5 breaks5 (λ d h n. refl))
 
 returns-2 : tie.Need-returns-2
-unfolding demandIn numbered
+unfolding demandIn withNumber
 returns-2 c = search (by-row headerProcedures 6 demand6 (λ d h n. refl))
 
 returns-3 : tie.Need-returns-3
-unfolding demandIn numbered
+unfolding demandIn withNumber
 returns-3 c = search (by-test headerProcedures 7 breaks7 (λ d h n. refl))
 
 returns-4 : tie.Need-returns-4
-unfolding demandIn numbered
+unfolding demandIn withNumber
 returns-4 c = search (by-row headerProcedures 8 demand8 (λ d h n. refl))
 
 returns-5 : tie.Need-returns-5
-unfolding demandIn numbered
+unfolding demandIn withNumber
 returns-5 c = search (by-test headerProcedures 9 breaks9 (λ d h n. refl))
 
 returns-6 : tie.Need-returns-6
-unfolding demandIn numbered
+unfolding demandIn withNumber
 returns-6 c = search (by-test headerProcedures 10 breaks10 (λ d h n. refl))
 
 returns-7 : tie.Need-returns-7
-unfolding demandIn numbered
+unfolding demandIn withNumber
 returns-7 c = search (by-test headerProcedures 11 breaks11 (λ d h n. refl))
 
 returns-8 : tie.Need-returns-8
-unfolding demandIn numbered
+unfolding demandIn withNumber
 returns-8 c = search (by-row headerProcedures 12 demand12 (λ d h n. refl))
 
 returns-9 : tie.Need-returns-9
-unfolding demandIn numbered
+unfolding demandIn withNumber
 returns-9 c = search (by-test headerProcedures 13 breaks13 (λ d h n. refl))
 
 returns-10 : tie.Need-returns-10

@@ -2,7 +2,7 @@
 -- Assumes nothing.
 use mathlib.Core.Path.{refl}
 use Rattle.judge_listed.specs.Listed.{breaks1, breaks2, breaks3, breaks4}
-use Rattle.judge_procedures.specs.Procedures.{listedProcedures, numbered, demandIn}
+use Rattle.judge_procedures.specs.Procedures.{listedProcedures, withNumber, demandIn}
 use Rattle.judge_procedures.proofs.Told.{by-test, no-listed}
 use borrow.Author.Needs.{needs}
 use Rattle.judge_procedures.proofs.of_listed.Statement.{statement}
@@ -30,19 +30,19 @@ broken-if-requires-4 : tie.Need-broken-if-requires-4
 broken-if-requires-4 c κs = search needs
 
 returns : tie.Need-returns
-unfolding demandIn numbered
+unfolding demandIn withNumber
 returns c = search (by-test listedProcedures 1 (λ d h n. breaks1 d n) (λ d h n. refl))
 
 returns-2 : tie.Need-returns-2
-unfolding demandIn numbered
+unfolding demandIn withNumber
 returns-2 c = search (by-test listedProcedures 2 (λ d h n. breaks2 d n) (λ d h n. refl))
 
 returns-3 : tie.Need-returns-3
-unfolding demandIn numbered
+unfolding demandIn withNumber
 returns-3 c = search (by-test listedProcedures 3 (λ d h n. breaks3 d n) (λ d h n. refl))
 
 returns-4 : tie.Need-returns-4
-unfolding demandIn numbered
+unfolding demandIn withNumber
 returns-4 c = search (by-test listedProcedures 4 (λ d h n. breaks4 d n) (λ d h n. refl))
 
 returns-5 : tie.Need-returns-5

@@ -3,7 +3,7 @@
 use mathlib.Core.Path.{refl}
 use Rattle.judge_organisations.specs.Organisations.{breaks14, breaks15, breaks16, breaks17, demand18}
 use Rattle.judge_keys.specs.Keys.{breaks19, breaks20, demand21, demand22}
-use Rattle.judge_procedures.specs.Procedures.{organisationProcedures, numbered, demandIn}
+use Rattle.judge_procedures.specs.Procedures.{organisationProcedures, withNumber, demandIn}
 use Rattle.judge_procedures.proofs.Told.{by-test, by-row, no-organisation}
 use borrow.Author.Needs.{needs}
 use Rattle.judge_procedures.proofs.of_organisations.Statement.{statement}
@@ -55,39 +55,39 @@ demand-22-requires : tie.Need-demand-22-requires
 demand-22-requires c κs = search needs
 
 returns : tie.Need-returns
-unfolding demandIn numbered
+unfolding demandIn withNumber
 returns c = search (by-test organisationProcedures 14 (λ d h n. breaks14 d n) (λ d h n. refl))
 
 returns-2 : tie.Need-returns-2
-unfolding demandIn numbered
+unfolding demandIn withNumber
 returns-2 c = search (by-test organisationProcedures 15 (λ d h n. breaks15 d n) (λ d h n. refl))
 
 returns-3 : tie.Need-returns-3
-unfolding demandIn numbered
+unfolding demandIn withNumber
 returns-3 c = search (by-test organisationProcedures 16 (λ d h n. breaks16 d n) (λ d h n. refl))
 
 returns-4 : tie.Need-returns-4
-unfolding demandIn numbered
+unfolding demandIn withNumber
 returns-4 c = search (by-test organisationProcedures 17 (λ d h n. breaks17 d n) (λ d h n. refl))
 
 returns-5 : tie.Need-returns-5
-unfolding demandIn numbered
+unfolding demandIn withNumber
 returns-5 c = search (by-row organisationProcedures 18 (λ d h n. demand18 d n) (λ d h n. refl))
 
 returns-6 : tie.Need-returns-6
-unfolding demandIn numbered
+unfolding demandIn withNumber
 returns-6 c = search (by-test organisationProcedures 19 (λ d h n. breaks19 d n) (λ d h n. refl))
 
 returns-7 : tie.Need-returns-7
-unfolding demandIn numbered
+unfolding demandIn withNumber
 returns-7 c = search (by-test organisationProcedures 20 (λ d h n. breaks20 d n) (λ d h n. refl))
 
 returns-8 : tie.Need-returns-8
-unfolding demandIn numbered
+unfolding demandIn withNumber
 returns-8 c = search (by-row organisationProcedures 21 demand21 (λ d h n. refl))
 
 returns-9 : tie.Need-returns-9
-unfolding demandIn numbered
+unfolding demandIn withNumber
 returns-9 c = search (by-row organisationProcedures 22 demand22 (λ d h n. refl))
 
 returns-10 : tie.Need-returns-10

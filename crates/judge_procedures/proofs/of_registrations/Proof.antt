@@ -3,7 +3,7 @@
 use mathlib.Core.Path.{refl}
 use Rattle.judge_operations.specs.Operations.{breaks33, demand34, breaks37, breaks38}
 use Rattle.judge_registrations.specs.Registrations.{breaks31, breaks32, breaks35, breaks36}
-use Rattle.judge_procedures.specs.Procedures.{registrationProcedures, numbered, demandIn}
+use Rattle.judge_procedures.specs.Procedures.{registrationProcedures, withNumber, demandIn}
 use Rattle.judge_procedures.proofs.Told.{by-test, by-row, no-registration}
 use borrow.Author.Needs.{needs}
 use Rattle.judge_procedures.proofs.of_registrations.Statement.{statement}
@@ -55,35 +55,35 @@ broken-if-requires-7 : tie.Need-broken-if-requires-7
 broken-if-requires-7 c κs = search needs
 
 returns : tie.Need-returns
-unfolding demandIn numbered
+unfolding demandIn withNumber
 returns c = search (by-test registrationProcedures 31 (λ d h n. breaks31 d n) (λ d h n. refl))
 
 returns-2 : tie.Need-returns-2
-unfolding demandIn numbered
+unfolding demandIn withNumber
 returns-2 c = search (by-test registrationProcedures 32 (λ d h n. breaks32 d n) (λ d h n. refl))
 
 returns-3 : tie.Need-returns-3
-unfolding demandIn numbered
+unfolding demandIn withNumber
 returns-3 c = search (by-test registrationProcedures 33 (λ d h n. breaks33 d n) (λ d h n. refl))
 
 returns-4 : tie.Need-returns-4
-unfolding demandIn numbered
+unfolding demandIn withNumber
 returns-4 c = search (by-row registrationProcedures 34 (λ d h n. demand34 d n) (λ d h n. refl))
 
 returns-5 : tie.Need-returns-5
-unfolding demandIn numbered
+unfolding demandIn withNumber
 returns-5 c = search (by-test registrationProcedures 35 (λ d h n. breaks35 d n) (λ d h n. refl))
 
 returns-6 : tie.Need-returns-6
-unfolding demandIn numbered
+unfolding demandIn withNumber
 returns-6 c = search (by-test registrationProcedures 36 (λ d h n. breaks36 d n) (λ d h n. refl))
 
 returns-7 : tie.Need-returns-7
-unfolding demandIn numbered
+unfolding demandIn withNumber
 returns-7 c = search (by-test registrationProcedures 37 (λ d h n. breaks37 d n) (λ d h n. refl))
 
 returns-8 : tie.Need-returns-8
-unfolding demandIn numbered
+unfolding demandIn withNumber
 returns-8 c = search (by-test registrationProcedures 38 (λ d h n. breaks38 d n) (λ d h n. refl))
 
 returns-9 : tie.Need-returns-9

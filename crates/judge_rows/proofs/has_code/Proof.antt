@@ -1,6 +1,6 @@
 -- `judge_rows::has_code` meets its contract.
 -- Assumes nothing.
-use Rattle.xml_values.proofs.Views.{plain-attribute-ahead, plain-attribute-inside, plain-attribute-says}
+use Rattle.xml_values.proofs.Views.{room-says, plain-attribute-ahead, plain-attribute-inside, plain-attribute-says}
 use Rattle.judge_rows.proofs.Asked.{code-asked}
 use borrow.Author.Needs.{needs}
 use Rattle.judge_rows.proofs.has_code.Statement.{statement}
@@ -32,7 +32,7 @@ has-system-requires : tie.Need-has-system-requires
 has-system-requires c κs = search needs
 
 returns : tie.Need-returns
-returns c = search code-asked
+returns c = search (code-asked, room-says, needs)
 
 sub-has-system : tie.Need-sub-has-system
 sub-has-system c = search plain-attribute-ahead

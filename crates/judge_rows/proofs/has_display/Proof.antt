@@ -1,6 +1,6 @@
 -- `judge_rows::has_display` meets its contract.
 -- Assumes nothing.
-use Rattle.xml_values.proofs.Views.{plain-attribute-ahead, plain-attribute-inside, plain-attribute-says}
+use Rattle.xml_values.proofs.Views.{room-says, plain-attribute-ahead, plain-attribute-inside, plain-attribute-says}
 use Rattle.judge_rows.proofs.Asked.{display-asked}
 use Rattle.table_index.proofs.Runs.{any-code}
 use borrow.Author.Needs.{needs}
@@ -33,7 +33,7 @@ some-row-requires : tie.Need-some-row-requires
 some-row-requires c κs = search any-code
 
 returns : tie.Need-returns
-returns c = search display-asked
+returns c = search (display-asked, room-says, needs)
 
 sub-some-row : tie.Need-sub-some-row
 sub-some-row c = search plain-attribute-ahead

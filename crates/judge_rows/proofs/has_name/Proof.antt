@@ -1,6 +1,6 @@
 -- `judge_rows::has_name` meets its contract.
 -- Assumes nothing.
-use Rattle.xml_values.proofs.Views.{plain-attribute-ahead, plain-attribute-inside, plain-attribute-says}
+use Rattle.xml_values.proofs.Views.{room-says, plain-attribute-ahead, plain-attribute-inside, plain-attribute-says}
 use Rattle.judge_rows.proofs.Asked.{number-asked}
 use borrow.Author.Needs.{needs}
 use Rattle.judge_rows.proofs.has_name.Statement.{statement}
@@ -32,7 +32,7 @@ has-name-of-requires : tie.Need-has-name-of-requires
 has-name-of-requires c κs = search needs
 
 returns : tie.Need-returns
-returns c = search number-asked
+returns c = search (number-asked, room-says, needs)
 
 sub-has-name-of : tie.Need-sub-has-name-of
 sub-has-name-of c = search plain-attribute-ahead

@@ -1,5 +1,6 @@
 -- `judge_rows::has_name_of` meets its contract.
 -- Assumes nothing.
+use Rattle.xml_values.proofs.Views.{room-says}
 use Rattle.xml_texts.proofs.Texts.{plain-text-ahead, plain-text-inside, plain-text-says}
 use Rattle.judge_rows.proofs.Asked.{name-asked}
 use Rattle.table_index.proofs.Runs.{any-name}
@@ -29,7 +30,7 @@ some-row-requires : tie.Need-some-row-requires
 some-row-requires c κs = search any-name
 
 returns : tie.Need-returns
-returns c = search name-asked
+returns c = search (name-asked, room-says, needs)
 
 sub-some-row : tie.Need-sub-some-row
 sub-some-row c = search plain-text-ahead

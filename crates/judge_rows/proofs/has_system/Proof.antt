@@ -1,6 +1,6 @@
 -- `judge_rows::has_system` meets its contract.
 -- Assumes nothing.
-use Rattle.xml_values.proofs.Views.{plain-attribute-ahead, plain-attribute-inside, plain-attribute-says}
+use Rattle.xml_values.proofs.Views.{room-says, plain-attribute-ahead, plain-attribute-inside, plain-attribute-says}
 use Rattle.judge_rows.proofs.Asked.{system-asked}
 use borrow.Author.Needs.{needs}
 use Rattle.judge_rows.proofs.has_system.Statement.{statement}
@@ -32,7 +32,7 @@ has-display-requires : tie.Need-has-display-requires
 has-display-requires c κs = search needs
 
 returns : tie.Need-returns
-returns c = search system-asked
+returns c = search (system-asked, room-says, needs)
 
 sub-has-display : tie.Need-sub-has-display
 sub-has-display c = search plain-attribute-ahead

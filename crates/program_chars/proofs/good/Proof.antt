@@ -12,7 +12,7 @@ slice-aggregate-encode : tie.Need-slice-aggregate-encode
 slice-aggregate-encode c = search needs
 
 encode-requires : tie.Need-encode-requires
-encode-requires c κs = (search needs, omega (arith, encoded-most (c .before .args .c)))
+encode-requires c κs = search needs
 
 array-share-prefix-bytes : tie.Need-array-share-prefix-bytes
 array-share-prefix-bytes c = omega (arith, encoded-most (c .before .before .before .args .c))

@@ -1,6 +1,6 @@
 -- `xml_compare::character_end` meets its contract: the bytes of the character are the front of four.
 -- Assumes nothing.
-use Rattle.xml_compare.proofs.Compared.{character-room, character-inside, character-length, character-there, character-other, character-fits}
+use Rattle.xml_compare.proofs.Compared.{character-inside, character-length, character-there, character-other, character-fits}
 use borrow.Author.Needs.{needs}
 use Rattle.xml_compare.proofs.character_end.Statement.{statement}
 use Rattle.xml_compare.proofs.character_end.Tie as tie
@@ -9,7 +9,7 @@ slice-aggregate-encode : tie.Need-slice-aggregate-encode
 slice-aggregate-encode c = search needs
 
 encode-requires : tie.Need-encode-requires
-encode-requires c κs = search (character-room, needs)
+encode-requires c κs = search needs
 
 array-share-prefix-character : tie.Need-array-share-prefix-character
 array-share-prefix-character c = search character-inside

@@ -5,15 +5,18 @@ use mathlib.Core.Path.{refl}
 use lib.ListN.{length}
 use borrow.Author.Needs.{needs}
 use Rattle.xml_references.proofs.Ends.{jump-room, jump-falls}
-use Rattle.xml_references.proofs.Writes.{Wrote, byte-fits, plain-wrote, plain-room, kept-wrote, kept-room, code-most, code-room, code-fits, code-wrote, end-least, end-wrote}
+use Rattle.xml_references.proofs.Writes.{Wrote, plain-fits, plain-wrote, kept-fits, kept-wrote, code-fits, code-wrote, end-least, end-count, end-wrote}
 use Rattle.xml_references.proofs.decode_at.Statement.{statement}
 use Rattle.xml_references.proofs.decode_at.Tie as tie
 
 abbrev Inv-loop : tie.InvT-loop
-Inv-loop raw out₀ at n₀ i₀ out n i = Wrote raw out₀ at out n i
+Inv-loop raw out₀ at start n₀ i₀ out n i = Wrote raw out₀ start out n i
 
 abbrev μ-loop : tie.MeasureT-loop
-μ-loop raw out₀ at n₀ i₀ out n i = length raw - i
+μ-loop raw out₀ at start n₀ i₀ out n i = length raw - i
+
+up-to-requires : tie.Need-up-to-requires Inv-loop μ-loop
+up-to-requires c κs = search needs
 
 loop-holds : tie.Need-loop-holds Inv-loop μ-loop
 loop-holds c = (refl, refl, refl)
@@ -21,11 +24,11 @@ loop-holds c = (refl, refl, refl)
 shared-slice-read-b : tie.Need-shared-slice-read-b Inv-loop μ-loop
 shared-slice-read-b c = search needs
 
-slice-write-out : tie.Need-slice-write-out Inv-loop μ-loop
-slice-write-out c = search plain-room
+put-requires : tie.Need-put-requires Inv-loop μ-loop
+put-requires c κs = search needs
 
 add-n : tie.Need-add-n Inv-loop μ-loop
-add-n c = search (byte-fits, plain-room)
+add-n c = search plain-fits
 
 add-i : tie.Need-add-i Inv-loop μ-loop
 add-i c = search needs
@@ -45,11 +48,11 @@ enum-known-w c = search needs
 enum-told : tie.Need-enum-told Inv-loop μ-loop
 enum-told c = search needs
 
-slice-write-out-2 : tie.Need-slice-write-out-2 Inv-loop μ-loop
-slice-write-out-2 c = search kept-room
+put-requires-2 : tie.Need-put-requires-2 Inv-loop μ-loop
+put-requires-2 c κs = search needs
 
 add-n-2 : tie.Need-add-n-2 Inv-loop μ-loop
-add-n-2 c = search (byte-fits, kept-room)
+add-n-2 c = search kept-fits
 
 add-i-2 : tie.Need-add-i-2 Inv-loop μ-loop
 add-i-2 c = search needs
@@ -61,7 +64,7 @@ loop-again-2 : tie.Need-loop-again-2 Inv-loop μ-loop
 loop-again-2 c = search kept-wrote
 
 encode-requires : tie.Need-encode-requires Inv-loop μ-loop
-encode-requires c κs = search (code-most, code-room)
+encode-requires c κs = search needs
 
 add-n-3 : tie.Need-add-n-3 Inv-loop μ-loop
 add-n-3 c = search code-fits
@@ -82,7 +85,7 @@ same-length : tie.Need-same-length Inv-loop μ-loop
 same-length c = c .before .loop .inv .2
 
 returns : tie.Need-returns Inv-loop μ-loop
-returns c = end-wrote _ _ _ _ _ _ (c .before .loop .inv) (c .loop-test .left)
+returns c = (search end-count, search end-wrote)
 
 pub decode-at-spec : {M : Type 1} → statement M
 decode-at-spec =
@@ -90,9 +93,10 @@ decode-at-spec =
     (tie.spec
     Inv-loop
     μ-loop
+    up-to-requires
     loop-holds
     shared-slice-read-b
-    slice-write-out
+    put-requires
     add-n
     add-i
     loop-less
@@ -100,7 +104,7 @@ decode-at-spec =
     reference-at-requires
     enum-known-w
     enum-told
-    slice-write-out-2
+    put-requires-2
     add-n-2
     add-i-2
     loop-less-2

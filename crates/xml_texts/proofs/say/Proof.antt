@@ -4,7 +4,7 @@ use Prim.Native.Nat.{_-_}
 use mathlib.Core.Path.{refl}
 use native.Mathlib.Omega.{arith}
 use borrow.Author.Needs.{needs}
-use Rattle.xml_texts.proofs.Texts.{Stored, run-ahead, run-inside, run-less, run-room, run-fits, run-stored, drop-less, drop-stored, end-count, end-stored, ended-count, ended-stored, other-count, other-stored}
+use Rattle.xml_texts.proofs.Texts.{Stored, run-ahead, run-inside, run-less, run-fits, run-stored, drop-less, drop-stored, end-count, end-stored, ended-count, ended-stored, other-count, other-stored}
 use Rattle.xml_texts.proofs.say.Statement.{statement}
 use Rattle.xml_texts.proofs.say.Tie as tie
 
@@ -33,7 +33,7 @@ part-decode-at-end : tie.Need-part-decode-at-end Inv-loop μ-loop
 part-decode-at-end c = search run-inside
 
 decode-at-requires : tie.Need-decode-at-requires Inv-loop μ-loop
-decode-at-requires c κs = search run-room
+decode-at-requires c κs = search needs
 
 add-n : tie.Need-add-n Inv-loop μ-loop
 add-n c = search run-fits
