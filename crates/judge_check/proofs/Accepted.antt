@@ -1,6 +1,6 @@
--- A check that is not refused: the document was read, and its findings stand in the list; and two allowed answers are equal.
+-- A check that is not refused: the document was read, and its findings stand in the list.
 -- Assumes nothing.
-use mathlib.Core.Path.{_≡_, refl, sym, _∙_}
+use mathlib.Core.Path.{_≡_, refl, sym}
 use mathlib.Core.Bool.{Bool, true, false}
 use mathlib.Core.List.{List, _++_}
 use Prim.Native.Nat.{ℕ, _*_, _/_}
@@ -17,19 +17,13 @@ use Rattle.judge_input.specs.Scratch.{cleared}
 use Rattle.xml_steps.specs.Reading.{Read, refused, elements}
 use Rattle.xml_elements.specs.Elements.{elementsOf}
 use Rattle.judge_findings.specs.Listed.{findingsOf}
-use Rattle.judge_findings.specs.declared.Answer.{Answer}
 use Rattle.judge_findings.specs.declared.Answer.the-variants.{Findings, Refused}
 use Rattle.judge_type.specs.Drafted.{draftOf}
 use Rattle.judge_check.specs.Long.{longValue}
 use Rattle.judge_findings.specs.Room.{answerIn, listIn}
-use Rattle.judge_check.specs.Check.{Outcome, unlessLong, refuse, afterReading, afterInput, checkOf, CheckLeft}
+use Rattle.judge_check.specs.Check.{Outcome, unlessLong, refuse, afterReading, afterInput, checkOf}
 use Rattle.judge_check.specs.Accepted.{foundIn, Accepted}
 use Rattle.judge_check.proofs.Values.{none-long}
-
--- ---- two allowed answers are equal
-pub one-outcome : (x : Outcome) (r r′ : Answer) (s s′ t t′ l l′ : List ℕ) → CheckLeft x r s t l → CheckLeft x r′ s′ t′ l′ → (r ≡ r′) × (s ≡ s′) × (t ≡ t′) × (l ≡ l′)
-one-outcome x r r′ s s′ t t′ l l′ a b =
-    (a .answers ∙ sym (b .answers), a .scratches ∙ sym (b .scratches), a .tables ∙ sym (b .tables), a .lists ∙ sym (b .lists))
 
 -- ---- a check that is not refused
 refused-never : {A : Type 0} (number value n : ℕ) → Refused number value ≡ Findings n → A

@@ -13,7 +13,8 @@ unfoldable pub ancestorIn : List ℕ → ℕ → ℕ → ℕ
 ancestorIn notes zero k = k
 ancestorIn notes (suc levels) k = ancestorIn notes levels (parentOf notes k)
 
--- k stands so many levels below n. The root, whose parent is told as itself, does not stand below itself
+-- k stands so many levels below n. The root, whose parent is told as itself, does not stand below itself; of two levels or more, what stands fewer levels
+-- below the root is taken too. Only the labeler is looked for so, and its role stands three levels below the root alone
 abbrev pub standsBelow : List ℕ → ℕ → ℕ → ℕ → Bool
 standsBelow notes levels n k = eqb (ancestorIn notes levels k) n and not (eqb k n)
 

@@ -7,16 +7,14 @@ use Prim.Native.Nat.{ℕ, _/_, _≤_}
 use native.Mathlib.Omega.{arith}
 use borrow.Author.Tests.{eq-eqb, le-leb}
 use lib.ListN.{length, drop}
-use Rattle.text_scan.proofs.Decides.{only}
 use Rattle.text_scan.specs.declared.Found.{Found}
 use Rattle.text_scan.specs.declared.Found.the-variants.{At, Nothing}
 use Rattle.list_findings.specs.declared.Finding.{Finding}
 use Rattle.list_findings.specs.declared.Class.{Class}
-use Rattle.list_findings.specs.declared.Merged.{Merged}
 use Rattle.list_findings.specs.declared.Merged.the-variants.{Findings, Refused}
 use Rattle.list_findings.specs.Findings.{width, classOf, isValid, records, flat, filled}
 use Rattle.list_findings.specs.Lists.{Ordered, All, Good, has, stays, FaultAt, Least}
-use Rattle.list_findings.specs.Merge.{Met, met, among, verdict, kept, faultOf, merged, firstFault, firstBadRecord, Merging, mergeRefused, tooMany, mergeOf, IsMerged}
+use Rattle.list_findings.specs.Merge.{Met, met, among, verdict, kept, faultOf, merged, firstFault, firstBadRecord, Merging, mergeRefused, tooMany, mergeOf}
 use Rattle.list_findings.proofs.Order.{irreflexive}
 use Rattle.list_findings.proofs.Records.{length-records, flat-records}
 use Rattle.list_findings.proofs.Lists.{ordered-same}
@@ -24,10 +22,6 @@ use Rattle.list_findings.proofs.Meets.{Meets, over, first, second, both
 use Rattle.list_findings.proofs.Kept.{kept-ordered, kept-all, kept-where}
 use Rattle.list_findings.proofs.Faults.{fault-least}
 use Rattle.list_findings.proofs.Good.{run-good, good-flat}
-
--- ---- two outcomes that the contract allows are equal
-pub one-outcome : (a b out : List ℕ) (r r′ : Merged) (l l′ : List ℕ) → IsMerged a b out r l → IsMerged a b out r′ l′ → (r ≡ r′) × (l ≡ l′)
-one-outcome a b out r r′ l l′ p q = (only (p .answers) (q .answers), only (p .leaves) (q .leaves))
 
 -- ---- a merged list can be merged again: it is ordered, none stands twice, and each is valid
 pub merged-good : (a b : List Finding) → Good a → Good b → Good (merged a b)

@@ -29,7 +29,7 @@ attribute-requires : tie.Need-attribute-requires
 attribute-requires c κs = search needs
 
 some-row-requires : tie.Need-some-row-requires
-some-row-requires c κs = search (set-served, room-says, needs)
+some-row-requires c κs = search (set-served _ _ (room-says _ _ _ (c .attribute .ensures .says) (search needs)), needs)
 
 returns : tie.Need-returns
 returns c = search (set-asked, room-says, needs)
