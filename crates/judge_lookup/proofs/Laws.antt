@@ -58,15 +58,20 @@ module _ (count n : ℕ) (p : Places) where
           unfolding isLarge
           many-rows h = rw (le-leb count elementsLimit a, le-leb n tablesLimit b, le-leb (p .ncodes) rowsLimit c, le-leb (p .nnames) rowsLimit e, lt-leb (p .nhistory) rowsLimit h)
 
-          pub by-product : p .nhistory ≤ rowsLimit → ltb 8388608 (count * n) ≡ isLarge count n p
-          unfolding isLarge
-          by-product h = rw (le-leb count elementsLimit a, le-leb n tablesLimit b, le-leb (p .ncodes) rowsLimit c, le-leb (p .nnames) rowsLimit e, le-leb (p .nhistory) rowsLimit h)
+          module _ (g : p .nhistory ≤ rowsLimit) where
+            pub few-elements : count < 24 → false ≡ isLarge count n p
+            unfolding isLarge
+            few-elements h = rw (le-leb count elementsLimit a, le-leb n tablesLimit b, le-leb (p .ncodes) rowsLimit c, le-leb (p .nnames) rowsLimit e, le-leb (p .nhistory) rowsLimit g, lt-leb 24 count h)
+
+            pub by-product : 24 ≤ count → ltb 262144 (count * n) ≡ isLarge count n p
+            unfolding isLarge
+            by-product h = rw (le-leb count elementsLimit a, le-leb n tablesLimit b, le-leb (p .ncodes) rowsLimit c, le-leb (p .nnames) rowsLimit e, le-leb (p .nhistory) rowsLimit g, le-leb 24 count h)
 
 -- what a size that is worth it is within
 pub is-sized : (n : ℕ) (s : List ℕ) (p : Places) (r : Bool) → r ≡ isLarge n (length s) p → r ≡ true → Sized s p
 unfolding isLarge
 is-sized n s p r e f =
-    let last : Bool = ltb 8388608 (n * length s) in
+    let last : Bool = leb 24 n and ltb 262144 (n * length s) in
     let history : Bool = leb (p .nhistory) rowsLimit in
     let names : Bool = leb (p .nnames) rowsLimit in
     let codes : Bool = leb (p .ncodes) rowsLimit in

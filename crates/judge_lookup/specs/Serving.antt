@@ -35,7 +35,7 @@ asking notes = askingFrom notes 0 (length notes / 4)
 unfoldable pub isLarge : ℕ → ℕ → Places → Bool
 isLarge count n p =
     leb count elementsLimit and leb n tablesLimit and leb (p .ncodes) rowsLimit and leb (p .nnames) rowsLimit
-    and leb (p .nhistory) rowsLimit and ltb 8388608 (count * n)
+    and leb (p .nhistory) rowsLimit and leb 24 count and ltb 262144 (count * n)
 
 -- tables of a size that is accepted
 pub record Sized (s : List ℕ) (p : Places) : Type 0 where

@@ -72,7 +72,10 @@ pub fn is_large(count: usize, length: usize, places: Places) -> bool
     if Reader::ROWS < places.nhistory {
         return false;
     }
-    8388608 < count * length
+    if count < 24 {
+        return false;
+    }
+    262144 < count * length
 }
 
 // Indexes the rows of a section for a question in the run's part of number i, and leaves the other parts as they are.

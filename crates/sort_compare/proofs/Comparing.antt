@@ -4,11 +4,10 @@
 use mathlib.Core.Path.{_≡_, refl, sym, _∙_, ap}
 use mathlib.Core.Bool.{Bool, true, false}
 use mathlib.Core.List.{List, [], _∷_, _++_, map}
-use Prim.Native.Nat.{ℕ, zero, suc, _+_, _-_, _<_, _≤_}
+use Prim.Native.Nat.{ℕ, suc, _+_, _-_, _<_, _≤_}
 use native.Mathlib.Omega.{arith}
 use lib.Dec.{eqb}
-use lib.ListN.{length, drop, getD, length-drop}
-use lib.Seq.{getD-drop}
+use lib.ListN.{length, drop, getD}
 use Rattle.text_scan.proofs.Tests.{or-left, or-right}
 use Rattle.text_scan.proofs.Within.{drop-here}
 use Rattle.table_lines.specs.Lines.{isTab}
@@ -18,9 +17,9 @@ use Rattle.sort_compare.specs.declared.By.{By}
 use Rattle.sort_compare.specs.Order.{order, thenBy}
 use Rattle.sort_compare.specs.Fields.{isFeed, ends, frontField, afterField, shown, nextPlace, skipPlace, fieldsFrom, coded, rowKey}
 use Rattle.sort_compare.specs.Keys.{keyAt}
-use Rattle.sort_compare.specs.Units.{alikeFrom, unitOf}
+use Rattle.sort_compare.specs.Units.{unitOf}
 use Rattle.sort_compare.proofs.Ordering.{compared, by-less, by-more, by-rest}
-use Rattle.sort_compare.proofs.Parts.{shownByte, shown-nil, shown-cons, part-goes, unit-inside, unit-goes, unit-is, unit-none, same-byte, first-inside, second-inside, first-on, second-on, alike-first, alike-second}
+use Rattle.sort_compare.proofs.Parts.{shownByte, shown-nil, shown-cons, part-goes, unit-inside, unit-goes, unit-is, unit-none}
 use Rattle.sort_compare.proofs.Skipping.{drop-skip}
 
 pub order-coded : (f g : List ℕ) (fs gs : List (List ℕ)) → order (coded (f ∷ fs)) (coded (g ∷ gs)) ≡ thenBy (order f g) (order (coded fs) (coded gs))
@@ -96,7 +95,7 @@ module _ (s : List ℕ) (a b fields folded i j left : ℕ) (l : RowsFrom s a b f
     unfolding RowsFrom
     from = l ∙ ap (λ (m : ℕ). order (rowKey m folded (drop i s)) (rowKey m folded (drop j s))) more
 
-    on : i < length s → j < length s → ends true (getD s i 0) ≡ false → ends true (getD s j 0) ≡ false → shownByte (eqb left folded) (getD s i 0) ≡ shownByte (eqb left folded) (getD s j 0) → RowsFrom s a b fields folded (i + 1) (j + 1) left
+    pub on : i < length s → j < length s → ends true (getD s i 0) ≡ false → ends true (getD s j 0) ≡ false → shownByte (eqb left folded) (getD s i 0) ≡ shownByte (eqb left folded) (getD s j 0) → RowsFrom s a b fields folded (i + 1) (j + 1) left
     unfolding RowsFrom
     on p q e f g =
         let o : shownByte (eqb (suc (left - 1)) folded) (getD s i 0) ≡ shownByte (eqb (suc (left - 1)) folded) (getD s j 0) = rw more at g in
@@ -135,40 +134,6 @@ module _ (s : List ℕ) (a b fields folded i j left : ℕ) (l : RowsFrom s a b f
             from
             ∙ (rw (key-ends s (left - 1) folded i (unit-none true s i (eqb left folded) u eu z), key-ends s (left - 1) folded j (unit-none true s j (eqb left folded) w ew (same ∙ z)), ← e, ← f)
             (by-rest 0 0 (rowKey (left - 1) folded (drop c s)) (rowKey (left - 1) folded (drop d s)) refl))
-
--- the bytes that are the same from i and from j on are passed
-module _ (s : List ℕ) (a b fields folded i j left : ℕ) (l : RowsFrom s a b fields folded i j left) (h : 0 < left) where
-  passed : (n : ℕ) → n ≤ alikeFrom (drop i s) (drop j s) → RowsFrom s a b fields folded (i + n) (j + n) left
-  passed zero g =
-      let e : i + 0 ≡ i = omega arith in
-      let f : j + 0 ≡ j = omega arith in
-      rw (e, f) l
-  passed (suc n) g =
-      let e : i + n + 1 ≡ i + suc n = omega arith in
-      let f : j + n + 1 ≡ j + suc n = omega arith in
-      let x = drop i s in
-      let y = drop j s in
-      let o : n < alikeFrom x y = omega arith in
-      rw (e, f) at
-      (on s a b fields folded (i + n) (j + n) left (passed n (omega arith)) h
-      (omega (arith, first-inside x y n o, length-drop i s))
-      (omega (arith, second-inside x y n o, length-drop j s))
-      (rw (← getD-drop i s n 0) (first-on x y n o true))
-      (rw (← getD-drop j s n 0) (second-on x y n o true))
-      (rw (← getD-drop i s n 0, ← getD-drop j s n 0) (ap (shownByte (eqb left folded)) (same-byte x y n o))))
-
-  pub rows-alike : (x y : List ℕ) → x ≡ drop i s → y ≡ drop j s → (k : ℕ) → k ≡ alikeFrom x y → RowsFrom s a b fields folded (i + k) (j + k) left
-  rows-alike x y p q k e =
-      let f : k ≡ alikeFrom (drop i s) (drop j s) = rw (← p, ← q) e in
-      passed k (omega arith)
-
--- they lie within
-module _ (s : List ℕ) (i j : ℕ) (x y : List ℕ) (p : x ≡ drop i s) (q : y ≡ drop j s) (k : ℕ) (e : k ≡ alikeFrom x y) where
-  pub first-room : k ≤ length s - i
-  first-room = omega (arith, alike-first x y, ap length p, length-drop i s)
-
-  pub second-room : k ≤ length s - j
-  second-room = omega (arith, alike-second x y, ap length q, length-drop j s)
 
 -- ---- two positions
 pub compared-by : (by k : By) → by ≡ k → (s : List ℕ) (a b : ℕ) (r : Order) → r ≡ order (keyAt k s a) (keyAt k s b) → r ≡ order (keyAt by s a) (keyAt by s b)

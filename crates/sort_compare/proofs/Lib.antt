@@ -3,4 +3,5 @@ pub mod Bytes
 pub mod Parts
 pub mod Skipping
 pub mod Comparing
+pub mod Sharing
 pub mod Decided

@@ -14,6 +14,8 @@ use Rattle.text_scan.specs.Bytes.{lower}
 use Rattle.text_scan.proofs.Tests.{not-passed, and-left, and-right, and-false}
 use Rattle.text_scan.proofs.Within.{inside, drop-here}
 use Rattle.table_lines.specs.Lines.{isTab, front}
+use Rattle.table_lines.specs.Blocks.{plainEnd}
+use Rattle.table_lines.proofs.Blocks.{along}
 use Rattle.sort_compare.specs.declared.Order.{Order}
 use Rattle.sort_compare.specs.declared.Order.the-variants.{Less, Same, More}
 use Rattle.sort_compare.specs.Order.{order}
@@ -40,7 +42,7 @@ ends-feed cut b e f = rw (e, ne-eqb b 9 f)
 pub ends-not : (cut : Bool) (b : ℕ) → cut ≡ false → false ≡ ends cut b
 ends-not cut b e = rw e
 
-no-end : (cut : Bool) (b : ℕ) → (b ≡ 9 → ⊥) → (b ≡ 10 → ⊥) → ends cut b ≡ false
+pub no-end : (cut : Bool) (b : ℕ) → (b ≡ 9 → ⊥) → (b ≡ 10 → ⊥) → ends cut b ≡ false
 no-end cut b e f = rw (ne-eqb b 9 e, ne-eqb b 10 f) (and-false cut)
 
 -- ---- the units of a part
@@ -124,6 +126,13 @@ module _ (s : List ℕ) (at i : ℕ) (l : Ending s at i) where
 
     pub end-goes : u ≡ false → Ending s at (i + 1)
     end-goes f = omega (arith, l, ap length (part-goes true s i h (sym eu ∙ f)))
+
+pub end-plain : (s : List ℕ) (at e : ℕ) → e ≡ plainEnd s at → Ending s at e
+end-plain s at e q =
+    rw q
+    (along (ltb 13) s (λ k. Ending s at k)
+    (λ k h t l. end-goes s at k l h false (sym (no-end true (getD s k 0) (λ p. absurd (omega (arith, ltb-true 13 (getD s k 0) t))) (λ p. absurd (omega (arith, ltb-true 13 (getD s k 0) t))))) refl)
+    at refl)
 
 -- ---- the place behind it
 module _ (s : List ℕ) (i : ℕ) where
@@ -212,9 +221,6 @@ module _ (x y : List ℕ) (k : ℕ) (h : k < alikeFrom x y) where
 -- they all lie within
 pub alike-first : (x y : List ℕ) → alikeFrom x y ≤ length x
 alike-first x y = inside (alikeFrom x y) (length x) (λ h. absurd (omega (arith, first-inside x y (length x) h))) (λ h. h)
-
-pub alike-second : (x y : List ℕ) → alikeFrom x y ≤ length y
-alike-second x y = inside (alikeFrom x y) (length y) (λ h. absurd (omega (arith, second-inside x y (length y) h))) (λ h. h)
 
 -- ---- the order by the units
 unit-less : (l m : List ℕ) → unitOf l < unitOf m → order l m ≡ Less

@@ -95,11 +95,16 @@ fn collect(
     n
 }
 
-// Sorts the places of at most 65,535 rows.
+// Sorts the places of at most 65,535 rows; of few rows in a small room, which is soon made.
 fn arrange(q: Lookup, s: &[u8], run: &mut [u32])
     requires { ⌜ length (now run) ≤ rowsLimit ⌝ }
     ensures { λ _. ⌜ Sorted (keyAt (byOf q) (now (s .entry))) (now (run .entry)) (now (run .exit)) ⌝ }
 {
+    if run.len() <= 2048 {
+        let mut few = [0u32; 1024];
+        sort_places::sort(by(q), s, run, &mut few);
+        return;
+    }
     let mut room = [0u32; 32768];
     sort_places::sort(by(q), s, run, &mut room);
 }

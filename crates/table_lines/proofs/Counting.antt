@@ -6,13 +6,15 @@ use mathlib.Core.List.{List, [], _∷_}
 use Prim.Native.Nat.{ℕ, suc, _+_, _<_, _≤_}
 use native.Mathlib.Nat.{zero-add}
 use native.Mathlib.Omega.{arith}
-use borrow.Author.Tests.{ne-eqb, le-leb, lt-leb}
-use lib.Dec.{eqb, leb}
+use borrow.Author.Tests.{ne-eqb, le-leb, lt-leb, ltb-true}
+use lib.Dec.{eqb, leb, ltb}
 use lib.ListN.{length, drop, getD, drop-of-length-le}
 use Rattle.text_scan.specs.Choice.{pick, _and_}
 use Rattle.text_scan.specs.Lists.{every}
 use Rattle.text_scan.proofs.Within.{drop-here}
 use Rattle.table_lines.specs.Lines.{Row, other, lineAt, inFirst, fieldsOf, areFields, fieldCount, front}
+use Rattle.table_lines.specs.Blocks.{plainEnd}
+use Rattle.table_lines.proofs.Blocks.{along}
 use Rattle.table_lines.proofs.Runs.{before}
 
 -- a line has a field
@@ -122,3 +124,11 @@ module _ (s : List ℕ) (at n start i : ℕ) (l : Counting s at n start i) where
 
     pub feed-field : start < i → n + 1 ≡ fieldCount (lineAt s at)
     feed-field = last-field (left-feed s i h e)
+
+-- the same behind bytes that are above 13
+pub at-plain : (s : List ℕ) (at n start i : ℕ) → Counting s at n start i → i < length s → start ≤ i → 13 < getD s i 0 → (e : ℕ) → e ≡ plainEnd s (i + 1) → Counting s at n start e
+at-plain s at n start i l h o g e q =
+    rw q
+    (along (ltb 13) s (λ k. (start ≤ k) × Counting s at n start k)
+    (λ k f t r. (omega (arith, r .0), at-above s at n start k (r .1) f (r .0) (ltb-true 13 _ t)))
+    (i + 1) (omega arith, at-above s at n start i l h o g) .1)

@@ -5,13 +5,16 @@ use mathlib.Core.Bool.{Bool, true, false}
 use mathlib.Core.List.{List, [], _∷_}
 use Prim.Native.Nat.{ℕ, zero, suc, _+_, _-_, _<_, _≤_}
 use native.Mathlib.Omega.{arith}
-use borrow.Author.Tests.{ne-eqb}
+use borrow.Author.Tests.{ne-eqb, ltb-true}
+use lib.Dec.{ltb}
 use lib.ListN.{length, take, drop, getD, drop-of-length-le}
 use Rattle.text_scan.specs.Choice.{pick, not}
 use Rattle.text_scan.specs.Lists.{runFrom}
 use Rattle.text_scan.proofs.Within.{drop-here}
 use Rattle.table_lines.specs.Lines.{Row, other, isTab, field, inFirst, fieldsOf, front}
 use Rattle.table_lines.specs.Starts.{fieldStart}
+use Rattle.table_lines.specs.Blocks.{plainEnd}
+use Rattle.table_lines.proofs.Blocks.{along}
 use Rattle.table_lines.proofs.Runs.{before}
 
 -- ---- the loop of `field_start`
@@ -42,6 +45,13 @@ module _ (line : List ℕ) (k : ℕ) where
   unfolding fieldStart
   at-other zero i l h z e = absurd (z refl)
   at-other (suc left) i l h z e = l ∙ rw (drop-here line i h, ne-eqb (getD line i 0) 9 e)
+
+  pub at-plain : (left i : ℕ) → Starting line k left i → i < length line → (left ≡ 0 → ⊥) → (getD line i 0 ≡ 9 → ⊥) → (e : ℕ) → e ≡ plainEnd line (i + 1) → Starting line k left e
+  at-plain left i l h z g e q =
+      rw q
+      (along (ltb 13) line (λ j. Starting line k left j)
+      (λ j f t r. at-other left j r f z (λ p. absurd (omega (arith, ltb-true 13 (getD line j 0) t))))
+      (i + 1) (at-other left i l h z g))
 
 -- ---- what stands there
 start-within : (k i : ℕ) (xs : List ℕ) → (i ≤ fieldStart k i xs) × (fieldStart k i xs ≤ i + length xs)
@@ -100,8 +110,12 @@ stands (suc k) i (b ∷ bs) = go (isTab b) (stands k (i + 1) bs) (stands (suc k)
         let e : fieldStart (suc k) (i + 1) bs - i ≡ suc (fieldStart (suc k) (i + 1) bs - (i + 1)) = omega (arith, start-within (suc k) (i + 1) bs .0) in
         rw e (later-more b k (fieldsOf bs) ∙ q)
 
+-- a field is what stands from its start up to a tab
+pub field-front : (line : List ℕ) (k a : ℕ) → a ≡ fieldStart k 0 line → front (other 9) (drop a line) ≡ field (fieldsOf line) k
+field-front line k a p =
+    let z : fieldStart k 0 line - 0 ≡ a = omega arith in
+    sym (stands k 0 line ∙ rw z)
+
 -- the part of a line that is its field of number k
 pub field-part : (line : List ℕ) (k a e : ℕ) → a ≡ fieldStart k 0 line → e ≡ runFrom (other 9) line a → take (e - a) (drop a line) ≡ field (fieldsOf line) k
-field-part line k a e p q =
-    let z : fieldStart k 0 line - 0 ≡ a = omega arith in
-    rw (q, before noTab a (drop a line)) (sym (stands k 0 line ∙ rw z))
+field-part line k a e p q = rw (q, before noTab a (drop a line)) (field-front line k a p)

@@ -1,3 +1,4 @@
+pub mod Blocks
 pub mod Runs
 pub mod Counting
 pub mod Fields

@@ -1,4 +1,4 @@
--- Where a field starts: what `field_start` answers. No definition of document 01: the contract of `field` says nothing of it.
+-- Where a field starts: what `field_start` answers. No definition of document 01.
 -- Assumes nothing.
 use Prim.Native.Nat.{ℕ, zero, suc, _+_}
 use mathlib.Core.List.{List, [], _∷_}

@@ -1,3 +1,4 @@
+pub mod Values
 pub mod Tests
 pub mod Walk
 pub mod Decided

@@ -1,9 +1,10 @@
 // The rows of a section, as parts of the tables file: whether some row is what a procedure asks for. A section is the place of its first
 // row and the count of its rows.
 ghost use mathlib.Core.Path.{_≡_};
+ghost use lib.ListN.{drop};
 ghost use Rattle.text_facts.specs.Strings.{equal, equalInAnyCase};
 ghost use Rattle.text_numbers.specs.Numbers.{versionOf};
-ghost use Rattle.table_lines.specs.Lines.{field, fieldsOf, rowsAt};
+ghost use Rattle.table_lines.specs.Lines.{other, front, field, fieldsOf, rowsAt};
 ghost use Rattle.table_rows.specs.Rows.{someRow, isAsked, isCode, isRegistered, isDocument, isVersion, isKeyElsewhere, isOtherKey};
 
 // What can be asked of a row.
@@ -16,11 +17,37 @@ pub enum Question {
     OtherKey,
 }
 
+// Whether the field that starts at `at` is this value: most are told by their first bytes, and their ends are not looked for.
+fn value_at(line: &[u8], at: usize, value: &[u8]) -> bool
+    ensures { λ r. ⌜ r ≡ equal (front (other 9) (drop at (now (line .entry)))) (now (value .entry)) ⌝ }
+{
+    let mut i = at;
+    let mut j = 0;
+    while j < value.len() {
+        if line.len() <= i {
+            return false;
+        }
+        let b = line[i];
+        if b != value[j] {
+            return false;
+        }
+        if b == b'\t' {
+            return false;
+        }
+        i += 1;
+        j += 1;
+    }
+    if line.len() <= i {
+        return true;
+    }
+    line[i] == b'\t'
+}
+
 // Whether the field of number k of a line is this value.
 pub fn field_is(line: &[u8], k: usize, value: &[u8]) -> bool
     ensures { λ r. ⌜ r ≡ equal (field (fieldsOf (now (line .entry))) k) (now (value .entry)) ⌝ }
 {
-    text_facts::same(table_lines::field(line, k), value)
+    value_at(line, table_lines::field_start(line, k), value)
 }
 
 // The same, ASCII case ignored.

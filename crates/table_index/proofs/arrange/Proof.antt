@@ -20,6 +20,32 @@ same-length c = search needs
 returns : tie.Need-returns
 returns c = search arranged-by
 
+by-requires-2 : tie.Need-by-requires-2
+by-requires-2 c κs = search needs
+
+slice-aggregate-sort-2 : tie.Need-slice-aggregate-sort-2
+slice-aggregate-sort-2 c = search needs
+
+sort-requires-2 : tie.Need-sort-requires-2
+sort-requires-2 c κs = search needs
+
+same-length-2 : tie.Need-same-length-2
+same-length-2 c = search needs
+
+returns-2 : tie.Need-returns-2
+returns-2 c = search arranged-by
+
 pub arrange-spec : {M : Type 1} → statement M
 arrange-spec =
-    tie.close (tie.spec by-requires slice-aggregate-sort sort-requires same-length returns)
+    tie.close
+    (tie.spec
+    by-requires
+    slice-aggregate-sort
+    sort-requires
+    same-length
+    returns
+    by-requires-2
+    slice-aggregate-sort-2
+    sort-requires-2
+    same-length-2
+    returns-2)

@@ -9,8 +9,8 @@ use Rattle.table_lines.proofs.field.Tie as tie
 field-start-requires : tie.Need-field-start-requires
 field-start-requires c κs = search needs
 
-until-requires : tie.Need-until-requires
-until-requires c κs = search needs
+field-end-requires : tie.Need-field-end-requires
+field-end-requires c κs = search needs
 
 sub-result : tie.Need-sub-result
 sub-result c = search ahead
@@ -29,7 +29,7 @@ field-spec =
     tie.close
     (tie.spec
     field-start-requires
-    until-requires
+    field-end-requires
     sub-result
     part-result-start
     part-result-end

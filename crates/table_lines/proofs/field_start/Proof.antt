@@ -4,7 +4,8 @@ use Prim.Native.Nat.{_-_}
 use mathlib.Core.Path.{refl}
 use lib.ListN.{length}
 use borrow.Author.Needs.{needs}
-use Rattle.table_lines.proofs.Fields.{Starting, here, past, at-tab, at-other}
+use Rattle.table_lines.proofs.Runs.{plain-less}
+use Rattle.table_lines.proofs.Fields.{Starting, here, past, at-tab, at-plain}
 use Rattle.table_lines.proofs.field_start.Statement.{statement}
 use Rattle.table_lines.proofs.field_start.Tie as tie
 
@@ -35,14 +36,17 @@ loop-less c = search needs
 loop-again : tie.Need-loop-again Inv-loop μ-loop
 loop-again c = search at-tab
 
-add-i-2 : tie.Need-add-i-2 Inv-loop μ-loop
-add-i-2 c = search needs
+add-plain-end : tie.Need-add-plain-end Inv-loop μ-loop
+add-plain-end c = search needs
+
+plain-end-requires : tie.Need-plain-end-requires Inv-loop μ-loop
+plain-end-requires c κs = search needs
 
 loop-less-2 : tie.Need-loop-less-2 Inv-loop μ-loop
-loop-less-2 c = search needs
+loop-less-2 c = search plain-less
 
 loop-again-2 : tie.Need-loop-again-2 Inv-loop μ-loop
-loop-again-2 c = search at-other
+loop-again-2 c = search at-plain
 
 returns-2 : tie.Need-returns-2 Inv-loop μ-loop
 returns-2 c = search past
@@ -60,7 +64,8 @@ field-start-spec =
     add-i
     loop-less
     loop-again
-    add-i-2
+    add-plain-end
+    plain-end-requires
     loop-less-2
     loop-again-2
     returns-2)

@@ -7,8 +7,8 @@ use mathlib.Core.Logic.{⊎-elim}
 use lib.ListN.{length}
 use Rattle.text_scan.proofs.Lists.{Run, run-ends}
 use Rattle.table_lines.specs.Lines.{other}
-use Rattle.table_lines.proofs.Runs.{until-here, until-on, line-on, line-same}
-use Rattle.table_lines.proofs.Counting.{Counting, starts, at-return, at-tab-empty, at-tab, at-other, at-above, end-empty, end-field, feed-empty, feed-field}
+use Rattle.table_lines.proofs.Runs.{until-here, until-on, line-plain, line-same, plain-least, plain-less}
+use Rattle.table_lines.proofs.Counting.{Counting, starts, at-return, at-tab-empty, at-tab, at-other, at-plain, end-empty, end-field, feed-empty, feed-field}
 use Rattle.table_lines.proofs.line_at.Statement.{statement}
 use Rattle.table_lines.proofs.line_at.Tie as tie
 
@@ -24,14 +24,17 @@ loop-holds c = (refl, search starts, search needs, search needs, search needs)
 shared-slice-read-b : tie.Need-shared-slice-read-b Inv-loop μ-loop
 shared-slice-read-b c = search needs
 
-add-i : tie.Need-add-i Inv-loop μ-loop
-add-i c = search needs
+add-plain-end : tie.Need-add-plain-end Inv-loop μ-loop
+add-plain-end c = search needs
+
+plain-end-requires : tie.Need-plain-end-requires Inv-loop μ-loop
+plain-end-requires c κs = search needs
 
 loop-less : tie.Need-loop-less Inv-loop μ-loop
-loop-less c = search needs
+loop-less c = search plain-less
 
 loop-again : tie.Need-loop-again Inv-loop μ-loop
-loop-again c = (search line-on, search at-above, search needs, search needs, search needs)
+loop-again c = (search line-plain, search at-plain, search plain-least, search plain-least, search needs)
 
 no-fields-requires : tie.Need-no-fields-requires Inv-loop μ-loop
 no-fields-requires c κs = search needs
@@ -48,8 +51,8 @@ returns-2 c = (search line-same, search at-tab-empty)
 add-n : tie.Need-add-n Inv-loop μ-loop
 add-n c = search needs
 
-add-i-2 : tie.Need-add-i-2 Inv-loop μ-loop
-add-i-2 c = search needs
+add-i : tie.Need-add-i Inv-loop μ-loop
+add-i c = search needs
 
 loop-less-2 : tie.Need-loop-less-2 Inv-loop μ-loop
 loop-less-2 c = search needs
@@ -57,8 +60,8 @@ loop-less-2 c = search needs
 loop-again-2 : tie.Need-loop-again-2 Inv-loop μ-loop
 loop-again-2 c = (search until-on, search at-tab, search needs, search needs, search needs)
 
-add-i-3 : tie.Need-add-i-3 Inv-loop μ-loop
-add-i-3 c = search needs
+add-i-2 : tie.Need-add-i-2 Inv-loop μ-loop
+add-i-2 c = search needs
 
 loop-less-3 : tie.Need-loop-less-3 Inv-loop μ-loop
 loop-less-3 c = search needs
@@ -69,8 +72,8 @@ loop-again-3 c = (search until-on, search at-other, search needs, search needs, 
 returns-3 : tie.Need-returns-3 Inv-loop μ-loop
 returns-3 c = ⊎-elim (λ w. (search run-ends, search end-empty)) (λ w. (search until-here, search feed-empty)) (c .before .loop-test .came)
 
-add-t13 : tie.Need-add-t13 Inv-loop μ-loop
-add-t13 c = search needs
+add-t14 : tie.Need-add-t14 Inv-loop μ-loop
+add-t14 c = search needs
 
 returns-4 : tie.Need-returns-4 Inv-loop μ-loop
 returns-4 c = ⊎-elim (λ w. (search run-ends, search end-field)) (λ w. (search until-here, search feed-field)) (c .before .loop-test .came)
@@ -83,7 +86,8 @@ line-at-spec =
     μ-loop
     loop-holds
     shared-slice-read-b
-    add-i
+    add-plain-end
+    plain-end-requires
     loop-less
     loop-again
     no-fields-requires
@@ -91,12 +95,12 @@ line-at-spec =
     no-fields-requires-2
     returns-2
     add-n
-    add-i-2
+    add-i
     loop-less-2
     loop-again-2
-    add-i-3
+    add-i-2
     loop-less-3
     loop-again-3
     returns-3
-    add-t13
+    add-t14
     returns-4)

@@ -1,147 +1,31 @@
--- `sort_compare::fields::compare_rows` meets its contract.
+-- `sort_compare::fields::compare_rows` meets its contract: rows that begin with the same bytes of their first fields compare as what follows these.
 -- Assumes nothing.
-use Rattle.sort_compare.proofs.Parts.{next-least}
-use native.Mathlib.Omega.{arith}
-use Rattle.sort_compare.proofs.Comparing.{RowsFrom, rows-start, rows-same, rows-alike, first-room, second-room, row-less, row-more, rows-inside, chain-goes, field-over}
-use lib.ListN.{length}
-use Prim.Native.Nat.{_+_, _-_, _<_, _^_}
 use borrow.Author.Needs.{needs}
+use Rattle.sort_compare.proofs.Sharing.{near-asked}
 use Rattle.sort_compare.proofs.fields.compare_rows.Statement.{statement}
 use Rattle.sort_compare.proofs.fields.compare_rows.Tie as tie
 
-abbrev Inv-loop : tie.InvT-loop
-Inv-loop s a b fields folded i₀ j₀ left₀ i j left = (i < 2 ^ 64) × (j < 2 ^ 64) × RowsFrom s a b fields folded i j left
+near-requires : tie.Need-near-requires
+near-requires c κs = search needs
 
-abbrev μ-loop : tie.MeasureT-loop
-μ-loop s a b fields folded i₀ j₀ left₀ i j left = left + (length s - i)
+add-compare-shared : tie.Need-add-compare-shared
+add-compare-shared c = search needs
 
-loop-holds : tie.Need-loop-holds Inv-loop μ-loop
-loop-holds c = (search needs, search needs, search rows-start)
+add-compare-shared-2 : tie.Need-add-compare-shared-2
+add-compare-shared-2 c = search needs
 
-rest-requires : tie.Need-rest-requires Inv-loop μ-loop
-rest-requires c κs = search needs
+compare-shared-requires : tie.Need-compare-shared-requires
+compare-shared-requires c κs = search needs
 
-rest-requires-2 : tie.Need-rest-requires-2 Inv-loop μ-loop
-rest-requires-2 c κs = search needs
-
-alike-requires : tie.Need-alike-requires Inv-loop μ-loop
-alike-requires c κs = search needs
-
-add-i : tie.Need-add-i Inv-loop μ-loop
-add-i c =
-    let s = c .before .before .before .before .before .before .args .s .now in
-    let l = c .before .before .before .before .loop in
-    let h = first-room s (l .i) (l .j) _ _ (c .before .before .rest .ensures) (c .before .rest2 .ensures) _ (c .alike .ensures) in
-    search needs
-
-add-j : tie.Need-add-j Inv-loop μ-loop
-add-j c =
-    let s = c .before .before .before .before .before .before .args .s .now in
-    let l = c .before .before .before .before .loop in
-    let h = second-room s (l .i) (l .j) _ _ (c .before .before .rest .ensures) (c .before .rest2 .ensures) _ (c .alike .ensures) in
-    search needs
-
-unit-requires : tie.Need-unit-requires Inv-loop μ-loop
-unit-requires c κs = search needs
-
-unit-requires-2 : tie.Need-unit-requires-2 Inv-loop μ-loop
-unit-requires-2 c κs = search needs
-
-returns : tie.Need-returns Inv-loop μ-loop
-returns c =
-    let b = c .before in
-    let a = b .before .before in
-    let l = rows-alike _ _ _ _ _ _ _ _ (a .before .before .before .before .loop .inv .2) (a .before .before .before .loop-test .taken) _ _ (a .before .before .rest .ensures) (a .before .rest2 .ensures) _ (a .alike .ensures) in
-    row-less _ _ _ _ _ _ _ _ l (a .before .before .before .loop-test .taken) _ (b .before .unit .ensures) _ (b .unit2 .ensures) (c .if1 .taken)
-
-returns-2 : tie.Need-returns-2 Inv-loop μ-loop
-returns-2 c =
-    let b = c .before .before in
-    let a = b .before .before in
-    let l = rows-alike _ _ _ _ _ _ _ _ (a .before .before .before .before .loop .inv .2) (a .before .before .before .loop-test .taken) _ _ (a .before .before .rest .ensures) (a .before .rest2 .ensures) _ (a .alike .ensures) in
-    row-more _ _ _ _ _ _ _ _ l (a .before .before .before .loop-test .taken) _ (b .before .unit .ensures) _ (b .unit2 .ensures) (c .if2 .taken)
-
-next-field-requires : tie.Need-next-field-requires Inv-loop μ-loop
-next-field-requires c κs = search needs
-
-next-field-requires-2 : tie.Need-next-field-requires-2 Inv-loop μ-loop
-next-field-requires-2 c κs = search needs
-
-sub-left : tie.Need-sub-left Inv-loop μ-loop
-sub-left c = search needs
-
-loop-less : tie.Need-loop-less Inv-loop μ-loop
-loop-less c = omega (arith, next-least _ _ _ (c .before .next-field .ensures))
-
-loop-again : tie.Need-loop-again Inv-loop μ-loop
-loop-again c =
-    let b = c .before .before .before .before .before in
-    let a = b .before .before in
-    let l = rows-alike _ _ _ _ _ _ _ _ (a .before .before .before .before .loop .inv .2) (a .before .before .before .loop-test .taken) _ _ (a .before .before .rest .ensures) (a .before .rest2 .ensures) _ (a .alike .ensures) in
-    (search needs, search needs, field-over _ _ _ _ _ _ _ _ l (a .before .before .before .loop-test .taken) _ (b .before .unit .ensures) _ (b .unit2 .ensures) (c .before .before .before .before .if1 .left) (c .before .before .before .if2 .left) (c .before .before .if3 .taken) _ _ (c .before .next-field .ensures) (c .next-field2 .ensures))
-
-add-i-2 : tie.Need-add-i-2 Inv-loop μ-loop
-add-i-2 c =
-    let b = c .before .before .before in
-    let a = b .before .before in
-    let l = rows-alike _ _ _ _ _ _ _ _ (a .before .before .before .before .loop .inv .2) (a .before .before .before .loop-test .taken) _ _ (a .before .before .rest .ensures) (a .before .rest2 .ensures) _ (a .alike .ensures) in
-    let h = rows-inside _ _ _ _ _ _ _ _ l (a .before .before .before .loop-test .taken) _ (b .before .unit .ensures) _ (b .unit2 .ensures) (c .before .before .if1 .left) (c .before .if2 .left) (c .if3 .left) .0 in
-    let g = b .before .before .before .before .before .before .before .before .good .0 in
-    search needs
-
-add-j-2 : tie.Need-add-j-2 Inv-loop μ-loop
-add-j-2 c =
-    let b = c .before .before .before in
-    let a = b .before .before in
-    let l = rows-alike _ _ _ _ _ _ _ _ (a .before .before .before .before .loop .inv .2) (a .before .before .before .loop-test .taken) _ _ (a .before .before .rest .ensures) (a .before .rest2 .ensures) _ (a .alike .ensures) in
-    let h = rows-inside _ _ _ _ _ _ _ _ l (a .before .before .before .loop-test .taken) _ (b .before .unit .ensures) _ (b .unit2 .ensures) (c .before .before .if1 .left) (c .before .if2 .left) (c .if3 .left) .1 in
-    let g = b .before .before .before .before .before .before .before .before .good .0 in
-    search needs
-
-loop-less-2 : tie.Need-loop-less-2 Inv-loop μ-loop
-loop-less-2 c =
-    let b = c .before .before .before in
-    let a = b .before .before in
-    let l = rows-alike _ _ _ _ _ _ _ _ (a .before .before .before .before .loop .inv .2) (a .before .before .before .loop-test .taken) _ _ (a .before .before .rest .ensures) (a .before .rest2 .ensures) _ (a .alike .ensures) in
-    omega (arith, rows-inside _ _ _ _ _ _ _ _ l (a .before .before .before .loop-test .taken) _ (b .before .unit .ensures) _ (b .unit2 .ensures) (c .before .before .if1 .left) (c .before .if2 .left) (c .if3 .left) .0)
-
-loop-again-2 : tie.Need-loop-again-2 Inv-loop μ-loop
-loop-again-2 c =
-    let b = c .before .before .before in
-    let a = b .before .before in
-    let l = rows-alike _ _ _ _ _ _ _ _ (a .before .before .before .before .loop .inv .2) (a .before .before .before .loop-test .taken) _ _ (a .before .before .rest .ensures) (a .before .rest2 .ensures) _ (a .alike .ensures) in
-    let h = rows-inside _ _ _ _ _ _ _ _ l (a .before .before .before .loop-test .taken) _ (b .before .unit .ensures) _ (b .unit2 .ensures) (c .before .before .if1 .left) (c .before .if2 .left) (c .if3 .left) in
-    let g = b .before .before .before .before .before .before .before .before .good .0 in
-    let i = h .0 in
-    let j = h .1 in
-    (search needs, search needs, chain-goes _ _ _ _ _ _ _ _ l (a .before .before .before .loop-test .taken) _ (b .before .unit .ensures) _ (b .unit2 .ensures) (c .before .before .if1 .left) (c .before .if2 .left) (c .if3 .left))
-
-returns-3 : tie.Need-returns-3 Inv-loop μ-loop
-returns-3 c = search (rows-same _ _ _ _ _ _ _ _ (c .before .loop .inv .2))
+returns : tie.Need-returns
+returns c = search near-asked
 
 pub compare-rows-spec : {M : Type 1} → statement M
 compare-rows-spec =
     tie.close
     (tie.spec
-    Inv-loop
-    μ-loop
-    loop-holds
-    rest-requires
-    rest-requires-2
-    alike-requires
-    add-i
-    add-j
-    unit-requires
-    unit-requires-2
-    returns
-    returns-2
-    next-field-requires
-    next-field-requires-2
-    sub-left
-    loop-less
-    loop-again
-    add-i-2
-    add-j-2
-    loop-less-2
-    loop-again-2
-    returns-3)
+    near-requires
+    add-compare-shared
+    add-compare-shared-2
+    compare-shared-requires
+    returns)

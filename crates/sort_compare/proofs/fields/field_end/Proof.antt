@@ -1,6 +1,6 @@
 -- `sort_compare::fields::field_end` meets its contract.
 -- Assumes nothing.
-use Rattle.sort_compare.proofs.Parts.{Ending, end-here, end-goes, end-past}
+use Rattle.sort_compare.proofs.Parts.{Ending, end-plain, end-here, end-goes, end-past}
 use lib.ListN.{length}
 use Prim.Native.Nat.{_-_}
 use borrow.Author.Needs.{needs}
@@ -13,8 +13,11 @@ Inv-loop s at i₀ i = Ending s at i
 abbrev μ-loop : tie.MeasureT-loop
 μ-loop s at i₀ i = length s - i
 
+plain-end-requires : tie.Need-plain-end-requires Inv-loop μ-loop
+plain-end-requires c κs = search needs
+
 loop-holds : tie.Need-loop-holds Inv-loop μ-loop
-loop-holds c = search needs
+loop-holds c = search end-plain
 
 shared-slice-read-is-end : tie.Need-shared-slice-read-is-end Inv-loop μ-loop
 shared-slice-read-is-end c = search needs
@@ -43,6 +46,7 @@ field-end-spec =
     (tie.spec
     Inv-loop
     μ-loop
+    plain-end-requires
     loop-holds
     shared-slice-read-is-end
     is-end-requires

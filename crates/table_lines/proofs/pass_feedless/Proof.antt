@@ -1,0 +1,60 @@
+-- `table_lines::pass_feedless` meets its contract. The invariant: the line's end, told from `at`, is that told from i.
+-- Assumes nothing.
+use Prim.Native.Nat.{_+_, _-_}
+use mathlib.Core.Path.{refl}
+use lib.ListN.{length}
+use borrow.Author.Needs.{needs}
+use Rattle.text_scan.proofs.Lists.{Run}
+use Rattle.table_lines.specs.Lines.{other}
+use Rattle.table_lines.proofs.Blocks.{run-block}
+use Rattle.table_lines.proofs.pass_feedless.Statement.{statement}
+use Rattle.table_lines.proofs.pass_feedless.Tie as tie
+
+abbrev Inv-loop : tie.InvT-loop
+Inv-loop s at last i₀ i = Run (other 10) s at i
+
+abbrev μ-loop : tie.MeasureT-loop
+μ-loop s at last i₀ i = length s - i
+
+returns : tie.Need-returns Inv-loop μ-loop
+returns c = refl
+
+sub-last : tie.Need-sub-last Inv-loop μ-loop
+sub-last c = search needs
+
+loop-holds : tie.Need-loop-holds Inv-loop μ-loop
+loop-holds c = refl
+
+feedless-requires : tie.Need-feedless-requires Inv-loop μ-loop
+feedless-requires c κs = search needs
+
+add-i : tie.Need-add-i Inv-loop μ-loop
+add-i c = search needs
+
+loop-less : tie.Need-loop-less Inv-loop μ-loop
+loop-less c = search needs
+
+loop-again : tie.Need-loop-again Inv-loop μ-loop
+loop-again c = search (run-block (other 10))
+
+returns-2 : tie.Need-returns-2 Inv-loop μ-loop
+returns-2 c = search needs
+
+returns-3 : tie.Need-returns-3 Inv-loop μ-loop
+returns-3 c = search needs
+
+pub pass-feedless-spec : {M : Type 1} → statement M
+pass-feedless-spec =
+    tie.close
+    (tie.spec
+    Inv-loop
+    μ-loop
+    returns
+    sub-last
+    loop-holds
+    feedless-requires
+    add-i
+    loop-less
+    loop-again
+    returns-2
+    returns-3)
