@@ -9,97 +9,96 @@ use borrow.Author.Tests.{eq-eqb, ne-eqb, le-ltb, lt-ltb}
 use lib.Dec.{eqb, ltb}
 use Rattle.text_scan.specs.Choice.{pick, _or_, _and_, not}
 use Rattle.text_scan.specs.Bytes.{text}
-use Rattle.text_scan.specs.Lists.{runEnd}
 use Rattle.text_scan.proofs.Tests.{never, and-left, and-right}
 use Rattle.text_facts.specs.Strings.{equal}
 use Rattle.judge_paths.specs.declared.DocumentType.{DocumentType}
 use Rattle.judge_paths.specs.declared.DocumentType.the-variants.{Neither, Registration, Request}
 use Rattle.judge_paths.specs.Roles.{Unknown, Unlisted, Root, Id, Code, Title, Br, EffectiveTime, SetId, VersionNumber, Author, Component, StructuredBody, Time, Entity1, Labeler, Entity2, Registrant, Entity3, Establishment, Entity4, Agent, OrganisationId, OrganisationName, ContactParty, ContactPerson, PersonName, Addr, StreetAddressLine, City, State, PostalCode, Country, Telecom, Performance, ActDefinition, OperationCode, RequestEntity, RequestLabeler}
 use Rattle.judge_paths.specs.Paths.{Types, either, KnownRow, fits, upperTable, labelerTable, organisationTable, entityTable, contactTable, table, roleNamed, isJudged, childRole}
-use Rattle.judge_paths.specs.Words.{wordEnd, wordedFrom, childIn}
+use Rattle.judge_paths.specs.Words.{wordedFrom, childIn}
 
 -- ---- the words of each parent
 module _ (t : DocumentType) (name : List ℕ) where
-  pub root-words : childIn (text "id code title effectiveTime setId versionNumber author component ") (Id ∷ Code ∷ Title ∷ EffectiveTime ∷ SetId ∷ VersionNumber ∷ Author ∷ Component ∷ []) name ≡ roleNamed t Root name upperTable
-  unfolding childIn wordedFrom wordEnd runEnd roleNamed
+  pub root-words : childIn (text "id code title effectiveTime setId versionNumber author component ") (2 ∷ 4 ∷ 5 ∷ 13 ∷ 5 ∷ 13 ∷ 6 ∷ 9 ∷ []) (Id ∷ Code ∷ Title ∷ EffectiveTime ∷ SetId ∷ VersionNumber ∷ Author ∷ Component ∷ []) name ≡ roleNamed t Root name upperTable
+  unfolding childIn wordedFrom roleNamed
   root-words = refl
 
-  pub title-words : childIn (text "br ") (Br ∷ []) name ≡ roleNamed t Title name upperTable
-  unfolding childIn wordedFrom wordEnd runEnd roleNamed
+  pub title-words : childIn (text "br ") (2 ∷ []) (Br ∷ []) name ≡ roleNamed t Title name upperTable
+  unfolding childIn wordedFrom roleNamed
   title-words = refl
 
-  pub component-words : childIn (text "structuredBody ") (StructuredBody ∷ []) name ≡ roleNamed t Component name upperTable
-  unfolding childIn wordedFrom wordEnd runEnd roleNamed
+  pub component-words : childIn (text "structuredBody ") (14 ∷ []) (StructuredBody ∷ []) name ≡ roleNamed t Component name upperTable
+  unfolding childIn wordedFrom roleNamed
   component-words = refl
 
-  pub request-entity-words : childIn (text "representedOrganization ") (RequestLabeler ∷ []) name ≡ roleNamed t RequestEntity name labelerTable
-  unfolding childIn wordedFrom wordEnd runEnd roleNamed
+  pub request-entity-words : childIn (text "representedOrganization ") (23 ∷ []) (RequestLabeler ∷ []) name ≡ roleNamed t RequestEntity name labelerTable
+  unfolding childIn wordedFrom roleNamed
   request-entity-words = refl
 
-  pub request-labeler-words : childIn (text "id name contactParty ") (OrganisationId ∷ OrganisationName ∷ ContactParty ∷ []) name ≡ roleNamed t RequestLabeler name labelerTable
-  unfolding childIn wordedFrom wordEnd runEnd roleNamed
+  pub request-labeler-words : childIn (text "id name contactParty ") (2 ∷ 4 ∷ 12 ∷ []) (OrganisationId ∷ OrganisationName ∷ ContactParty ∷ []) name ≡ roleNamed t RequestLabeler name labelerTable
+  unfolding childIn wordedFrom roleNamed
   request-labeler-words = refl
 
-  pub entity-1-words : childIn (text "representedOrganization ") (Labeler ∷ []) name ≡ roleNamed t Entity1 name labelerTable
-  unfolding childIn wordedFrom wordEnd runEnd roleNamed
+  pub entity-1-words : childIn (text "representedOrganization ") (23 ∷ []) (Labeler ∷ []) name ≡ roleNamed t Entity1 name labelerTable
+  unfolding childIn wordedFrom roleNamed
   entity-1-words = refl
 
-  pub labeler-words : childIn (text "id name assignedEntity ") (OrganisationId ∷ OrganisationName ∷ Entity2 ∷ []) name ≡ roleNamed t Labeler name labelerTable
-  unfolding childIn wordedFrom wordEnd runEnd roleNamed
+  pub labeler-words : childIn (text "id name assignedEntity ") (2 ∷ 4 ∷ 14 ∷ []) (OrganisationId ∷ OrganisationName ∷ Entity2 ∷ []) name ≡ roleNamed t Labeler name labelerTable
+  unfolding childIn wordedFrom roleNamed
   labeler-words = refl
 
-  pub registrant-words : childIn (text "id name contactParty assignedEntity ") (OrganisationId ∷ OrganisationName ∷ ContactParty ∷ Entity3 ∷ []) name ≡ roleNamed t Registrant name organisationTable
-  unfolding childIn wordedFrom wordEnd runEnd roleNamed
+  pub registrant-words : childIn (text "id name contactParty assignedEntity ") (2 ∷ 4 ∷ 12 ∷ 14 ∷ []) (OrganisationId ∷ OrganisationName ∷ ContactParty ∷ Entity3 ∷ []) name ≡ roleNamed t Registrant name organisationTable
+  unfolding childIn wordedFrom roleNamed
   registrant-words = refl
 
-  pub establishment-words : childIn (text "id name contactParty assignedEntity addr ") (OrganisationId ∷ OrganisationName ∷ ContactParty ∷ Entity4 ∷ Addr ∷ []) name ≡ roleNamed t Establishment name organisationTable
-  unfolding childIn wordedFrom wordEnd runEnd roleNamed
+  pub establishment-words : childIn (text "id name contactParty assignedEntity addr ") (2 ∷ 4 ∷ 12 ∷ 14 ∷ 4 ∷ []) (OrganisationId ∷ OrganisationName ∷ ContactParty ∷ Entity4 ∷ Addr ∷ []) name ≡ roleNamed t Establishment name organisationTable
+  unfolding childIn wordedFrom roleNamed
   establishment-words = refl
 
-  pub agent-words : childIn (text "id name telecom ") (OrganisationId ∷ OrganisationName ∷ Telecom ∷ []) name ≡ roleNamed t Agent name organisationTable
-  unfolding childIn wordedFrom wordEnd runEnd roleNamed
+  pub agent-words : childIn (text "id name telecom ") (2 ∷ 4 ∷ 7 ∷ []) (OrganisationId ∷ OrganisationName ∷ Telecom ∷ []) name ≡ roleNamed t Agent name organisationTable
+  unfolding childIn wordedFrom roleNamed
   agent-words = refl
 
-  pub entity-2-words : childIn (text "assignedOrganization ") (Registrant ∷ []) name ≡ roleNamed t Entity2 name entityTable
-  unfolding childIn wordedFrom wordEnd runEnd roleNamed
+  pub entity-2-words : childIn (text "assignedOrganization ") (20 ∷ []) (Registrant ∷ []) name ≡ roleNamed t Entity2 name entityTable
+  unfolding childIn wordedFrom roleNamed
   entity-2-words = refl
 
-  pub entity-3-words : childIn (text "assignedOrganization performance ") (Establishment ∷ Performance ∷ []) name ≡ roleNamed t Entity3 name entityTable
-  unfolding childIn wordedFrom wordEnd runEnd roleNamed
+  pub entity-3-words : childIn (text "assignedOrganization performance ") (20 ∷ 11 ∷ []) (Establishment ∷ Performance ∷ []) name ≡ roleNamed t Entity3 name entityTable
+  unfolding childIn wordedFrom roleNamed
   entity-3-words = refl
 
-  pub entity-4-words : childIn (text "assignedOrganization performance ") (Agent ∷ Performance ∷ []) name ≡ roleNamed t Entity4 name entityTable
-  unfolding childIn wordedFrom wordEnd runEnd roleNamed
+  pub entity-4-words : childIn (text "assignedOrganization performance ") (20 ∷ 11 ∷ []) (Agent ∷ Performance ∷ []) name ≡ roleNamed t Entity4 name entityTable
+  unfolding childIn wordedFrom roleNamed
   entity-4-words = refl
 
-  pub performance-words : childIn (text "actDefinition ") (ActDefinition ∷ []) name ≡ roleNamed t Performance name entityTable
-  unfolding childIn wordedFrom wordEnd runEnd roleNamed
+  pub performance-words : childIn (text "actDefinition ") (13 ∷ []) (ActDefinition ∷ []) name ≡ roleNamed t Performance name entityTable
+  unfolding childIn wordedFrom roleNamed
   performance-words = refl
 
-  pub act-definition-words : childIn (text "code ") (OperationCode ∷ []) name ≡ roleNamed t ActDefinition name entityTable
-  unfolding childIn wordedFrom wordEnd runEnd roleNamed
+  pub act-definition-words : childIn (text "code ") (4 ∷ []) (OperationCode ∷ []) name ≡ roleNamed t ActDefinition name entityTable
+  unfolding childIn wordedFrom roleNamed
   act-definition-words = refl
 
-  pub contact-party-words : childIn (text "addr telecom contactPerson ") (Addr ∷ Telecom ∷ ContactPerson ∷ []) name ≡ roleNamed t ContactParty name contactTable
-  unfolding childIn wordedFrom wordEnd runEnd roleNamed
+  pub contact-party-words : childIn (text "addr telecom contactPerson ") (4 ∷ 7 ∷ 13 ∷ []) (Addr ∷ Telecom ∷ ContactPerson ∷ []) name ≡ roleNamed t ContactParty name contactTable
+  unfolding childIn wordedFrom roleNamed
   contact-party-words = refl
 
-  pub contact-person-words : childIn (text "name ") (PersonName ∷ []) name ≡ roleNamed t ContactPerson name contactTable
-  unfolding childIn wordedFrom wordEnd runEnd roleNamed
+  pub contact-person-words : childIn (text "name ") (4 ∷ []) (PersonName ∷ []) name ≡ roleNamed t ContactPerson name contactTable
+  unfolding childIn wordedFrom roleNamed
   contact-person-words = refl
 
-  pub addr-words : childIn (text "streetAddressLine city state postalCode country ") (StreetAddressLine ∷ City ∷ State ∷ PostalCode ∷ Country ∷ []) name ≡ roleNamed t Addr name contactTable
-  unfolding childIn wordedFrom wordEnd runEnd roleNamed
+  pub addr-words : childIn (text "streetAddressLine city state postalCode country ") (17 ∷ 4 ∷ 5 ∷ 10 ∷ 7 ∷ []) (StreetAddressLine ∷ City ∷ State ∷ PostalCode ∷ Country ∷ []) name ≡ roleNamed t Addr name contactTable
+  unfolding childIn wordedFrom roleNamed
   addr-words = refl
 
 -- those of author, by the type
 module _ (name : List ℕ) where
-  pub author-registration : childIn (text "time assignedEntity ") (Time ∷ Entity1 ∷ []) name ≡ roleNamed Registration Author name upperTable
-  unfolding childIn wordedFrom wordEnd runEnd roleNamed
+  pub author-registration : childIn (text "time assignedEntity ") (4 ∷ 14 ∷ []) (Time ∷ Entity1 ∷ []) name ≡ roleNamed Registration Author name upperTable
+  unfolding childIn wordedFrom roleNamed
   author-registration = refl
 
-  pub author-request : childIn (text "time assignedEntity ") (Time ∷ RequestEntity ∷ []) name ≡ roleNamed Request Author name upperTable
-  unfolding childIn wordedFrom wordEnd runEnd roleNamed
+  pub author-request : childIn (text "time assignedEntity ") (4 ∷ 14 ∷ []) (Time ∷ RequestEntity ∷ []) name ≡ roleNamed Request Author name upperTable
+  unfolding childIn wordedFrom roleNamed
   author-request = refl
 
   pub author-neither : (t : DocumentType) → t ≡ Neither → Unlisted ≡ roleNamed t Author name upperTable

@@ -1,8 +1,9 @@
 // Which elements are known and as what.
 ghost use mathlib.Core.Path.{_≡_};
+ghost use lib.ListN.{length};
 ghost use Rattle.judge_paths.specs.Paths.{upperTable, labelerTable, organisationTable, entityTable, contactTable, table, roleNamed, isJudged, childRole};
 ghost use Rattle.judge_paths.specs.Roles.{Author};
-ghost use Rattle.judge_paths.specs.Words.{wordEnd, childIn};
+ghost use Rattle.judge_paths.specs.Words.{spanOf, childIn};
 
 pub mod role;
 
@@ -13,28 +14,16 @@ pub enum DocumentType {
     Request,
 }
 
-// The position after the word at `at`.
-fn word_end(words: &[u8], at: usize) -> usize
-    ensures { λ r. ⌜ r ≡ wordEnd (now (words .entry)) at ⌝ }
-{
-    let mut i = at;
-    while i < words.len() {
-        if words[i] == b' ' {
-            return i;
-        }
-        i += 1;
-    }
-    i
-}
-
-// The role of a child of this name where a parent lists these words, each followed by a space, with these roles.
-fn child_in(name: &[u8], words: &[u8], roles: &[u32]) -> u32
-    ensures { λ r. ⌜ r ≡ childIn (now (words .entry)) (now (roles .entry)) (now (name .entry)) ⌝ }
+// The role of a child of this name where a parent lists these words, each followed by a space, with these lengths and roles. A word of another length
+// than the name's is passed over unread.
+fn child_in(name: &[u8], words: &[u8], lengths: &[usize], roles: &[u32]) -> u32
+    requires { ⌜ spanOf (now lengths) ≡ length (now words) ⌝ }
+    ensures { λ r. ⌜ r ≡ childIn (now (words .entry)) (now (lengths .entry)) (now (roles .entry)) (now (name .entry)) ⌝ }
 {
     let mut at = 0;
     let mut number = 0;
-    while at < words.len() {
-        let end = word_end(words, at);
+    while number < lengths.len() {
+        let end = at + lengths[number];
         if text_facts::same(name, &words[at..end]) {
             if number < roles.len() {
                 return roles[number];
@@ -54,11 +43,17 @@ fn in_author(kind: DocumentType, name: &[u8]) -> u32
     match kind {
         DocumentType::Neither => role::UNLISTED,
         DocumentType::Registration => {
-            child_in(name, b"time assignedEntity ", &[role::TIME, role::ENTITY_1])
+            child_in(
+                name,
+                b"time assignedEntity ",
+                &[4, 14],
+                &[role::TIME, role::ENTITY_1],
+            )
         }
         DocumentType::Request => child_in(
             name,
             b"time assignedEntity ",
+            &[4, 14],
             &[role::TIME, role::REQUEST_ENTITY],
         ),
     }
@@ -72,6 +67,7 @@ fn in_upper(kind: DocumentType, parent: u32, name: &[u8]) -> u32
         return child_in(
             name,
             b"id code title effectiveTime setId versionNumber author component ",
+            &[2, 4, 5, 13, 5, 13, 6, 9],
             &[
                 role::ID,
                 role::CODE,
@@ -85,10 +81,10 @@ fn in_upper(kind: DocumentType, parent: u32, name: &[u8]) -> u32
         );
     }
     if parent == role::TITLE {
-        return child_in(name, b"br ", &[role::BR]);
+        return child_in(name, b"br ", &[2], &[role::BR]);
     }
     if parent == role::COMPONENT {
-        return child_in(name, b"structuredBody ", &[role::STRUCTURED_BODY]);
+        return child_in(name, b"structuredBody ", &[14], &[role::STRUCTURED_BODY]);
     }
     if parent == role::AUTHOR {
         return in_author(kind, name);
@@ -101,12 +97,18 @@ fn in_labeler(parent: u32, name: &[u8]) -> u32
     ensures { λ r. ⌜ r ≡ roleNamed DocumentType.Neither parent (now (name .entry)) labelerTable ⌝ }
 {
     if parent == role::REQUEST_ENTITY {
-        return child_in(name, b"representedOrganization ", &[role::REQUEST_LABELER]);
+        return child_in(
+            name,
+            b"representedOrganization ",
+            &[23],
+            &[role::REQUEST_LABELER],
+        );
     }
     if parent == role::REQUEST_LABELER {
         return child_in(
             name,
             b"id name contactParty ",
+            &[2, 4, 12],
             &[
                 role::ORGANISATION_ID,
                 role::ORGANISATION_NAME,
@@ -115,12 +117,13 @@ fn in_labeler(parent: u32, name: &[u8]) -> u32
         );
     }
     if parent == role::ENTITY_1 {
-        return child_in(name, b"representedOrganization ", &[role::LABELER]);
+        return child_in(name, b"representedOrganization ", &[23], &[role::LABELER]);
     }
     if parent == role::LABELER {
         return child_in(
             name,
             b"id name assignedEntity ",
+            &[2, 4, 14],
             &[
                 role::ORGANISATION_ID,
                 role::ORGANISATION_NAME,
@@ -139,6 +142,7 @@ fn in_organisation(parent: u32, name: &[u8]) -> u32
         return child_in(
             name,
             b"id name contactParty assignedEntity ",
+            &[2, 4, 12, 14],
             &[
                 role::ORGANISATION_ID,
                 role::ORGANISATION_NAME,
@@ -151,6 +155,7 @@ fn in_organisation(parent: u32, name: &[u8]) -> u32
         return child_in(
             name,
             b"id name contactParty assignedEntity addr ",
+            &[2, 4, 12, 14, 4],
             &[
                 role::ORGANISATION_ID,
                 role::ORGANISATION_NAME,
@@ -164,6 +169,7 @@ fn in_organisation(parent: u32, name: &[u8]) -> u32
         return child_in(
             name,
             b"id name telecom ",
+            &[2, 4, 7],
             &[
                 role::ORGANISATION_ID,
                 role::ORGANISATION_NAME,
@@ -179,12 +185,13 @@ fn in_entity(parent: u32, name: &[u8]) -> u32
     ensures { λ r. ⌜ r ≡ roleNamed DocumentType.Neither parent (now (name .entry)) entityTable ⌝ }
 {
     if parent == role::ENTITY_2 {
-        return child_in(name, b"assignedOrganization ", &[role::REGISTRANT]);
+        return child_in(name, b"assignedOrganization ", &[20], &[role::REGISTRANT]);
     }
     if parent == role::ENTITY_3 {
         return child_in(
             name,
             b"assignedOrganization performance ",
+            &[20, 11],
             &[role::ESTABLISHMENT, role::PERFORMANCE],
         );
     }
@@ -192,14 +199,15 @@ fn in_entity(parent: u32, name: &[u8]) -> u32
         return child_in(
             name,
             b"assignedOrganization performance ",
+            &[20, 11],
             &[role::AGENT, role::PERFORMANCE],
         );
     }
     if parent == role::PERFORMANCE {
-        return child_in(name, b"actDefinition ", &[role::ACT_DEFINITION]);
+        return child_in(name, b"actDefinition ", &[13], &[role::ACT_DEFINITION]);
     }
     if parent == role::ACT_DEFINITION {
-        return child_in(name, b"code ", &[role::OPERATION_CODE]);
+        return child_in(name, b"code ", &[4], &[role::OPERATION_CODE]);
     }
     role::UNLISTED
 }
@@ -212,16 +220,18 @@ fn in_contact(parent: u32, name: &[u8]) -> u32
         return child_in(
             name,
             b"addr telecom contactPerson ",
+            &[4, 7, 13],
             &[role::ADDR, role::TELECOM, role::CONTACT_PERSON],
         );
     }
     if parent == role::CONTACT_PERSON {
-        return child_in(name, b"name ", &[role::PERSON_NAME]);
+        return child_in(name, b"name ", &[4], &[role::PERSON_NAME]);
     }
     if parent == role::ADDR {
         return child_in(
             name,
             b"streetAddressLine city state postalCode country ",
+            &[17, 4, 5, 10, 7],
             &[
                 role::STREET_ADDRESS_LINE,
                 role::CITY,

@@ -24,12 +24,16 @@ use Rattle.xml_references.specs.References.{digitValue, number, Named, names, e
 use Rattle.xml_references.specs.Runs.{valueEnd}
 use Rattle.xml_references.proofs.Widths.{reference-least}
 use Rattle.xml_references.proofs.Bounds.{value-ahead}
-use Rattle.xml_references.proofs.Ends.{value-start, value-quote, value-less, value-other, value-bad, value-past}
+use Rattle.xml_references.proofs.Ends.{InValue, value-start, value-quote, value-less, value-other, value-bad, value-past}
 use Rattle.xml_attributes.specs.declared.Attribute.the-variants.{At, Nothing}
 use Rattle.xml_attributes.specs.Attributes.{closedAt, valuedAt, attributeTo, attributeAt}
 use Rattle.xml_attributes.proofs.Attributes.{Inside, attribute-inside}
 use Rattle.xml_value_reader.proofs.Shown.{drop-take}
 use Rattle.xml_agreement.proofs.Range.{begins-short, begins-less, range, range-length, byte, rest, run-here, name-same}
+
+-- a value that is read from its first byte on
+begun : (s : List ℕ) (q at : ℕ) → InValue s q at at
+begun s q at = value-start s q at at refl
 
 -- ---- a reference of w bytes, of which m are left
 no-reference : {A : Type 0} (w c : ℕ) → NoReference ≡ Char w c → A
@@ -123,29 +127,29 @@ module _ (s : List ℕ) (d n : ℕ) (fits : d + n ≤ length s) where
     referred : (getD s (d + i) 0 ≡ q → ⊥) → (getD s (d + i) 0 ≡ code "<" → ⊥) → getD s (d + i) 0 ≡ code "&" → (x : Reference) → x ≡ referenceAt s (d + i) → valueEnd r q i ≡ Place j
     referred u v z (Char w c) ex =
         next w (omega (arith, reference-least s (d + i) w c (sym ex)))
-        (value-past s q (d + i) (d + i) (value-start s q (d + i)) outer u v z (Char w c) ex w c refl ∙ sym (value-start s q (d + i + w)))
-        (λ m. value-past r q i i (value-start r q i) inner (λ y. u (sym here ∙ y)) (λ y. v (sym here ∙ y)) (here ∙ z) (Char w c) (sym (reference-same i w c (omega arith) (sym ex))) w c refl ∙ sym (value-start r q (i + w)))
+        (value-past s q (d + i) (d + i) (begun s q (d + i)) outer u v z (Char w c) ex w c refl ∙ sym (begun s q (d + i + w)))
+        (λ m. value-past r q i i (begun r q i) inner (λ y. u (sym here ∙ y)) (λ y. v (sym here ∙ y)) (here ∙ z) (Char w c) (sym (reference-same i w c (omega arith) (sym ex))) w c refl ∙ sym (begun r q (i + w)))
     referred u v z NoReference ex =
-        no-place (d + j) (value-bad s q (d + i) (d + i) (value-start s q (d + i)) outer u v z NoReference ex refl ∙ e)
+        no-place (d + j) (value-bad s q (d + i) (d + i) (begun s q (d + i)) outer u v z NoReference ex refl ∙ e)
 
     marked : (getD s (d + i) 0 ≡ q → ⊥) → (getD s (d + i) 0 ≡ code "<" → ⊥) → (t : Bool) → eqb (getD s (d + i) 0) (code "&") ≡ t → valueEnd r q i ≡ Place j
     marked u v true z = referred u v (eqb-true (getD s (d + i) 0) (code "&") z) (referenceAt s (d + i)) refl
     marked u v false z =
         let o : getD s (d + i) 0 ≡ code "&" → ⊥ = eqb-false (getD s (d + i) 0) (code "&") z in
         next 1 (omega arith)
-        (value-other s q (d + i) (d + i) (value-start s q (d + i)) outer u v o ∙ sym (value-start s q (d + i + 1)))
-        (λ m. value-other r q i i (value-start r q i) inner (λ y. u (sym here ∙ y)) (λ y. v (sym here ∙ y)) (λ y. o (sym here ∙ y)) ∙ sym (value-start r q (i + 1)))
+        (value-other s q (d + i) (d + i) (begun s q (d + i)) outer u v o ∙ sym (begun s q (d + i + 1)))
+        (λ m. value-other r q i i (begun r q i) inner (λ y. u (sym here ∙ y)) (λ y. v (sym here ∙ y)) (λ y. o (sym here ∙ y)) ∙ sym (begun r q (i + 1)))
 
     lessed : (getD s (d + i) 0 ≡ q → ⊥) → (t : Bool) → eqb (getD s (d + i) 0) (code "<") ≡ t → valueEnd r q i ≡ Place j
     lessed u true z =
-        no-place (d + j) (value-less s q (d + i) (d + i) (value-start s q (d + i)) outer u (eqb-true (getD s (d + i) 0) (code "<") z) ∙ e)
+        no-place (d + j) (value-less s q (d + i) (d + i) (begun s q (d + i)) outer u (eqb-true (getD s (d + i) 0) (code "<") z) ∙ e)
     lessed u false z = marked u (eqb-false (getD s (d + i) 0) (code "<") z) (eqb (getD s (d + i) 0) (code "&")) refl
 
     quoted : (t : Bool) → eqb (getD s (d + i) 0) q ≡ t → valueEnd r q i ≡ Place j
     quoted true z =
-        let y : d + i ≡ d + j = same-place (d + i) (d + j) (value-quote s q (d + i) (d + i) (value-start s q (d + i)) outer (eqb-true (getD s (d + i) 0) q z) ∙ e) in
+        let y : d + i ≡ d + j = same-place (d + i) (d + j) (value-quote s q (d + i) (d + i) (begun s q (d + i)) outer (eqb-true (getD s (d + i) 0) q z) ∙ e) in
         let x : i ≡ j = omega arith in
-        sym (value-quote r q i i (value-start r q i) inner (here ∙ eqb-true (getD s (d + i) 0) q z)) ∙ ap Place x
+        sym (value-quote r q i i (begun r q i) inner (here ∙ eqb-true (getD s (d + i) 0) q z)) ∙ ap Place x
     quoted false z = lessed (eqb-false (getD s (d + i) 0) q z) (eqb (getD s (d + i) 0) (code "<")) refl
 
   closes : (q j k i : ℕ) → n - i < k → i < n → j < n → valueEnd s q (d + i) ≡ Place (d + j) → valueEnd r q i ≡ Place j

@@ -1,4 +1,5 @@
 pub mod Rows
+pub mod Spaces
 pub mod Walks
 pub mod Outcomes
 pub mod Decided

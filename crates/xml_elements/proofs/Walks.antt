@@ -16,7 +16,6 @@ use Rattle.xml_reader.specs.declared.Reader.{Reader}
 use Rattle.xml_reader.specs.Limits.{documentLimit, elementsLimit}
 use Rattle.xml_pieces.specs.declared.Kind.{Kind}
 use Rattle.xml_pieces.specs.declared.Kind.the-variants.{End}
-use Rattle.xml_pieces.specs.declared.DocumentPart.{DocumentPart}
 use Rattle.xml_pieces.specs.declared.DocumentPart.the-variants.{Inside}
 use Rattle.xml_pieces.specs.declared.Scanned.{Scanned}
 use Rattle.xml_pieces.specs.declared.Scanned.the-variants.{Piece, Refused as Refusing}
@@ -94,10 +93,10 @@ module _ (s : List ℕ) (d : Reader) (numbers : List ℕ) (w : Told s d numbers)
       let q : d .depth ≡ 0 = omega arith in
       sym (told-end h ∙ rw (eq-eqb (d .depth) 0 q, lt-ltb 0 (d .count) (omega arith)))
 
-  module _ (h : d .at < length s) (p : DocumentPart) (ep : p ≡ documentPart (d .count) (d .depth)) (x : Scanned) (ex : x ≡ pieceAt s (d .at) p) where
+  module _ (h : d .at < length s) (x : Scanned) (ex : x ≡ pieceAt s (d .at) (documentPart (d .count) (d .depth))) where
     this-turn : turn s (reading d numbers) ≡ byPiece s (reading d numbers) x
     unfolding turn reading
-    this-turn = rw (lt-ltb _ _ h, ← ep, ← ex)
+    this-turn = rw (lt-ltb _ _ h, ← ex)
 
     pub piece-refused : (n : ℕ) (r : Answer) → x ≡ Refusing n → r ≡ pieceRefused x (d .at) → readOf r numbers ≡ readFrom s fresh
     unfolding byPiece reading readOf
@@ -106,7 +105,7 @@ module _ (s : List ℕ) (d : Reader) (numbers : List ℕ) (w : Told s d numbers)
 
     module _ (k : Kind) (j : ℕ) (e : x ≡ Piece k j) where
       there : Within (d .at) (length s) (Piece k j)
-      there = subst (Within (d .at) (length s)) (sym ex ∙ e) (piece-within s (d .at) p h)
+      there = subst (Within (d .at) (length s)) (sym ex ∙ e) (piece-within s (d .at) (documentPart (d .count) (d .depth)) h)
 
       pub steps : length s ≤ documentLimit → Steps s (reading d numbers) k j
       unfolding reading
@@ -117,8 +116,8 @@ module _ (s : List ℕ) (d : Reader) (numbers : List ℕ) (w : Told s d numbers)
             ahead = there .0;
             inside = there .1;
             ends = λ q.
-                let z : pieceAt s (d .at) p ≡ Piece End j = sym ex ∙ e ∙ ap (λ (y : Kind). Piece y j) q in
-                (part-deep (d .count) (d .depth) (sym ep ∙ end-inside s (d .at) j p z .0), end-inside s (d .at) j p z .1);
+                let z : pieceAt s (d .at) (documentPart (d .count) (d .depth)) ≡ Piece End j = sym ex ∙ e ∙ ap (λ (y : Kind). Piece y j) q in
+                (part-deep (d .count) (d .depth) (end-inside s (d .at) j _ z .0), end-inside s (d .at) j _ z .1);
           }
 
       module _ (short : length s ≤ documentLimit) (y : Stepped) (numbers′ : List ℕ) (ey : turnOf (d .at) y numbers′ ≡ byPiece s (reading d numbers) (Piece k j)) where

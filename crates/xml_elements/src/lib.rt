@@ -4,10 +4,12 @@ ghost use Prim.Native.Nat.{_+_, _*_, _≤_};
 ghost use mathlib.Core.List.{_++_};
 ghost use lib.ListN.{length, take, drop, getD, set};
 ghost use Rattle.xml_reader.specs.Limits.{documentLimit, elementsLimit};
+ghost use Rattle.xml_pieces.specs.Pieces.{pieceAt};
 ghost use Rattle.xml_elements.specs.Elements.{readFrom, elementsOf, ElementsLeft};
-ghost use Rattle.xml_steps.specs.Reading.{fresh, elements as elements′};
+ghost use Rattle.xml_steps.specs.Reading.{fresh, documentPart, elements as elements′};
 ghost use Rattle.xml_elements.specs.Walked.{readOf, pieceRefused, stopOf};
 ghost use Rattle.xml_steps.specs.Walked.{Roomy};
+use xml_pieces::Kind;
 use xml_pieces::Scanned;
 use xml_reader::Reader;
 use xml_steps::Stepped;
@@ -41,6 +43,21 @@ fn stop(next: Stepped, at: usize) -> Answer
     }
 }
 
+// The piece at `at`. White space between two tags, which is every other piece inside the root, is told here, with no call.
+fn scan(s: &[u8], at: usize, count: usize, depth: usize) -> Scanned
+    ensures { λ r. ⌜ r ≡ pieceAt (now (s .entry)) at (documentPart count depth) ⌝ }
+{
+    let e = xml_names::space_end(s, at);
+    if at < e {
+        if 0 < depth {
+            if text_scan::byte(s, e) == 60 {
+                return Scanned::Piece(Kind::Text, e);
+            }
+        }
+    }
+    xml_pieces::piece(s, at, xml_steps::part_of(count, depth))
+}
+
 // All pieces of a document, with the rows in the front of a lent run of numbers.
 fn walk(s: &[u8], rows: &mut [u32]) -> Answer
     requires { ⌜ (length (now s) ≤ documentLimit) × Roomy (length (now s)) (now rows) ⌝ }
@@ -49,7 +66,7 @@ fn walk(s: &[u8], rows: &mut [u32]) -> Answer
     let mut reader = Reader::new();
     while reader.at < s.len() {
         let at = reader.at;
-        let got = xml_pieces::piece(s, at, xml_steps::part_of(reader.count, reader.depth));
+        let got = scan(s, at, reader.count, reader.depth);
         let Scanned::Piece(kind, after) = got else {
             return refusal(got, at);
         };

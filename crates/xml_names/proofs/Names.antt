@@ -1,15 +1,29 @@
 -- Names, by the tests of the code; and where white space and names end, for callers.
 -- Assumes nothing.
-use mathlib.Core.Path.{_≡_}
-use mathlib.Core.Bool.{Bool, true, false}
+use mathlib.Core.Path.{_≡_, refl, sym}
+use mathlib.Core.Bool.{Bool, true, false, _&&_}
 use mathlib.Core.List.{List}
 use Prim.Native.Nat.{ℕ, _+_, _<_, _≤_}
 use native.Mathlib.Omega.{arith}
+use borrow.Author.Tests.{ltb-true}
+use lib.Dec.{T, ltb}
 use lib.ListN.{length, getD, List·getD-eq-default}
 use Rattle.text_scan.specs.Lists.{runFrom}
-use Rattle.text_scan.proofs.Tests.{pick-case}
+use Rattle.text_scan.proofs.Tests.{never, pick-case}
+use Rattle.text_scan.proofs.Bytes.{agree, range}
 use Rattle.text_scan.proofs.Lists.{run-least, run-most}
 use Rattle.xml_names.specs.Names.{isSpace, isNameStart, isNameChar, spaceEnd, nameEnd}
+
+-- the small letters, which one test asks for
+both-hold : (t u : Bool) → (t && u) ≡ true → (t ≡ true) × (u ≡ true)
+both-hold true true e = (refl, refl)
+both-hold true false e = never (sym e)
+both-hold false u e = never (sym e)
+
+pub small-letter : (p : ℕ → Bool) → T (agree (λ _. true) p 97 26) → (b : ℕ) → (ltb 96 b && ltb b 123) ≡ true → true ≡ p b
+small-letter p t b e =
+    let h : (ltb 96 b ≡ true) × (ltb b 123 ≡ true) = both-hold (ltb 96 b) (ltb b 123) e in
+    range (λ _. true) p 97 122 t b (omega (arith, ltb-true 96 b (h .0))) (omega (arith, ltb-true b 123 (h .1)))
 
 module _ (s : List ℕ) (at : ℕ) where
   pub name-past : length s ≤ at → at ≡ nameEnd s at

@@ -55,8 +55,8 @@ pub fn is_name_start(b: u8) -> bool
 pub fn is_name_char(b: u8) -> bool
     ensures { λ r. ⌜ r ≡ isNameChar b ⌝ }
 {
-    if 96 < b {
-        return b < 123;
+    if (96 < b) & (b < 123) {
+        return true;
     }
     if b < 48 {
         if b < 45 {
@@ -113,8 +113,8 @@ fn is_element_start(b: u8) -> bool
 fn is_element_char(b: u8) -> bool
     ensures { λ r. ⌜ r ≡ isElementChar b ⌝ }
 {
-    if 96 < b {
-        return b < 123;
+    if (96 < b) & (b < 123) {
+        return true;
     }
     if b == 58 {
         return false;
@@ -175,6 +175,12 @@ pub fn is_named(s: &[u8], at: usize, n: usize, t: &[u8]) -> bool
 pub fn value_start(s: &[u8], n: usize) -> Found
     ensures { λ r. ⌜ r ≡ valueStart (now (s .entry)) n ⌝ }
 {
+    // Most values stand straight behind the name, in double quotes.
+    if text_scan::byte(s, n) == 61 {
+        if text_scan::byte(s, n + 1) == 34 {
+            return Found::At(n + 2);
+        }
+    }
     let e = space_end(s, n);
     if text_scan::byte(s, e) != 61 {
         return Found::Nothing;

@@ -42,9 +42,9 @@ module _ (s : List ℕ) (i w c : ℕ) (x : Reference) (ex : x ≡ referenceAt s 
 abbrev pub InValue : List ℕ → ℕ → ℕ → ℕ → Type 0
 InValue s q at i = valueEnd s q at ≡ from (valueStep s q) Nothing (length s) i
 
-pub value-start : (s : List ℕ) (q at : ℕ) → InValue s q at at
+pub value-start : (s : List ℕ) (q at i : ℕ) → valueEnd s q at ≡ valueEnd s q i → InValue s q at i
 unfolding valueEnd
-value-start s q at = refl
+value-start s q at i e = e
 
 module _ (s : List ℕ) (q at i : ℕ) (l : InValue s q at i) where
   pub value-out : length s ≤ i → Nothing ≡ valueEnd s q at
@@ -79,6 +79,17 @@ module _ (s : List ℕ) (q at i : ℕ) (l : InValue s q at i) where
 
           pub value-past : (w c : ℕ) → x ≡ Char w c → InValue s q at (i + w)
           value-past w c z = l ∙ past s i w c x ex z (valueStep s q) Nothing value-at
+
+    -- a byte above the quote and '&'
+    module _ (high : ℕ) (g : high < getD s i 0) (m : q ≤ high) (n : 38 ≤ high) where
+      pub high-less : getD s i 0 ≡ code "<" → Nothing ≡ valueEnd s q at
+      high-less = value-less (λ z. omega arith)
+
+      pub high-other : (getD s i 0 ≡ code "<" → ⊥) → InValue s q at (i + 1)
+      high-other b = value-other (λ z. omega arith) b (λ z. omega arith)
+
+pub value-empty : (s : List ℕ) (q at : ℕ) → at < length s → getD s at 0 ≡ q → At at ≡ valueEnd s q at
+value-empty s q at = value-quote s q at at (value-start s q at at refl)
 
 -- ---- text
 abbrev pub InText : List ℕ → ℕ → ℕ → Type 0

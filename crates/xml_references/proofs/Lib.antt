@@ -1,6 +1,7 @@
 pub mod Digits
 pub mod Names
 pub mod Widths
+pub mod Quiet
 pub mod Ends
 pub mod Bounds
 pub mod Replaced

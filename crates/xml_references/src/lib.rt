@@ -7,6 +7,7 @@ ghost use Rattle.text_scan.specs.Bytes.{text};
 ghost use Rattle.text_scan.specs.Lists.{stands};
 ghost use Rattle.xml_references.specs.References.{digitValue, number, names, entityNamed, referenceAt};
 ghost use Rattle.xml_references.specs.Runs.{valueEnd, textEnd};
+ghost use Rattle.xml_references.specs.Quiet.{quietFor};
 ghost use Rattle.xml_references.specs.Decoded.{replaced, decoded};
 use text_scan::Found;
 
@@ -105,13 +106,75 @@ pub fn reference_at(s: &[u8], i: usize) -> Reference
     name_at(s, i)
 }
 
-// The place of the quote that closes the value which begins at `at`.
+// Whether each of the 8 bytes from i on is quiet: above both quotes and `&`, and no `<`. Nothing branches on a byte, so that the compiler compares all of them at a time.
+fn quiet_block(s: &[u8], i: usize) -> bool
+    requires { ⌜ i + 8 ≤ length (now s) ⌝ }
+    ensures { λ r. ⌜ r ≡ quietFor (now (s .entry)) i 8 ⌝ }
+{
+    let mut all = true;
+    let mut k = 0;
+    while k < 8 {
+        let b = s[i + k];
+        all = all & (39 < b) & (b != 60);
+        k += 1;
+    }
+    all
+}
+
+// A place from `at` on, at which the value is still to be read: behind quiet blocks, which most values are for the most part.
+fn past_quiet(s: &[u8], at: usize, quote: u8) -> usize
+    ensures { λ r. ⌜ valueEnd (now (s .entry)) quote at ≡ valueEnd (now (s .entry)) quote r ⌝ }
+{
+    if 39 < quote {
+        return at;
+    }
+    if s.len() < 8 {
+        return at;
+    }
+    let last = s.len() - 8;
+    let mut i = at;
+    while i <= last {
+        if quiet_block(s, i) {
+            i += 8;
+            continue;
+        }
+        return i;
+    }
+    i
+}
+
+// A byte above which neither the quote nor '&' stands.
+fn last_mark(quote: u8) -> u8
+    ensures { λ r. ⌜ (quote ≤ r) × (38 ≤ r) ⌝ }
+{
+    if quote < 40 {
+        return 39;
+    }
+    quote
+}
+
+// The place of the quote that closes the value which begins at `at`. In a value that is not empty, quiet blocks are passed over first; behind them all above
+// the quote and '&' but `<` is a part of the value.
 pub fn value_end(s: &[u8], at: usize, quote: u8) -> Found
     ensures { λ r. ⌜ r ≡ valueEnd (now (s .entry)) quote at ⌝ }
 {
-    let mut i = at;
+    if at < s.len() {
+        let first = s[at];
+        if first == quote {
+            return Found::At(at);
+        }
+    }
+    let high = last_mark(quote);
+    let mut i = past_quiet(s, at, quote);
     while i < s.len() {
         let b = s[i];
+        if high < b {
+            if b == b'<' {
+                return Found::Nothing;
+            }
+            i += 1;
+            continue;
+        }
         if b == quote {
             return Found::At(i);
         }

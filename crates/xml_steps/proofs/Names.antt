@@ -3,12 +3,14 @@
 use mathlib.Core.Path.{_≡_, refl, sym, _∙_, ap}
 use mathlib.Core.Bool.{Bool, true, false}
 use mathlib.Core.List.{List, [], _∷_}
-use Prim.Native.Nat.{ℕ, suc, _+_, _-_, _<_, _≤_}
+use Prim.Native.Nat.{ℕ, suc, _+_, _-_, _<_, _≤_, _^_}
 use native.Mathlib.Omega.{arith}
 use borrow.Author.Tests.{eq-eqb, ne-eqb}
 use lib.ListN.{length, getD, drop-of-length-le, List·getD-eq-default}
 use lib.Seq.{take-nil}
-use Rattle.text_scan.specs.Choice.{not}
+use mir.Val.{Fits}
+use mir.Syntax.{w64}
+use Rattle.text_scan.specs.Choice.{_and_, not}
 use Rattle.text_scan.specs.Lists.{pairs, runEnd, runFrom}
 use Rattle.text_scan.proofs.Lists.{run-least}
 use Rattle.text_scan.proofs.Within.{drop-here, inside, holds-there}
@@ -24,6 +26,13 @@ module _ (s : List ℕ) (k : ℕ) (h : length s ≤ k) where
 
   pub none-goes-on : true ≡ not (isNameChar (getD s k 0))
   none-goes-on = rw (List·getD-eq-default s 0 h)
+
+-- at two places
+pub over-both : (x y : ℕ) (t r : Bool) → t ≡ not (isNameChar x) → t ≡ true → r ≡ not (isNameChar y) → r ≡ not (isNameChar x) and not (isNameChar y)
+over-both x y t r e f g = g ∙ rw (← e, f)
+
+pub over-not : (x y : ℕ) (t : Bool) → t ≡ not (isNameChar x) → t ≡ false → false ≡ not (isNameChar x) and not (isNameChar y)
+over-not x y t e f = rw (← e, f)
 
 pub goes-on-not : (x : ℕ) (t : Bool) → t ≡ isNameChar x → not t ≡ not (isNameChar x)
 goes-on-not x t e = rw e
@@ -55,39 +64,48 @@ module _ (s : List ℕ) (i : ℕ) where
 abbrev pub Left : List ℕ → ℕ → ℕ → ℕ → ℕ → Type 0
 Left s i j a b = equal (nameBytes s i) (nameBytes s j) ≡ equal (nameBytes s a) (nameBytes s b)
 
+-- the place that is read first stands before the other
+pub before-within : (s : List ℕ) (a b : ℕ) → b < length s → a ≤ b → a < length s
+before-within s a b h g = omega arith
+
+pub before-fits : (s : List ℕ) (a b : ℕ) → b < length s → a ≤ b → length s < 2 ^ 64 → Fits w64 (a + 1)
+before-fits s a b h g l = omega arith
+
 module _ (s : List ℕ) (i j a b : ℕ) (l : Left s i j a b) where
-  -- the first name is over: it is the same where the second is over too
-  both-over : nameBytes s a ≡ [] → (r : Bool) → r ≡ not (isNameChar (getD s b 0)) → r ≡ equal (nameBytes s i) (nameBytes s j)
+  -- the second name is over: it is the same where the first is over too
+  pub second-past : length s ≤ b → (r : Bool) → r ≡ not (isNameChar (getD s a 0)) → r ≡ equal (nameBytes s i) (nameBytes s j)
   unfolding equal pairs
-  both-over e r f = f ∙ sym (l ∙ rw e (go (isNameChar (getD s b 0)) refl))
+  second-past h r f = f ∙ sym (l ∙ rw (bytes-past s b h) (go (isNameChar (getD s a 0)) refl))
     where
-      go : (t : Bool) → isNameChar (getD s b 0) ≡ t → equal [] (nameBytes s b) ≡ not t
-      go true q = rw (bytes-go s b (holds-there isNameChar refl s b q) q)
-      go false q = rw (bytes-over s b q)
+      go : (t : Bool) → isNameChar (getD s a 0) ≡ t → equal (nameBytes s a) [] ≡ not t
+      go true q = rw (bytes-go s a (holds-there isNameChar refl s a q) q)
+      go false q = rw (bytes-over s a q)
 
-  pub first-past : (r : Bool) → length s ≤ a → r ≡ not (isNameChar (getD s b 0)) → r ≡ equal (nameBytes s i) (nameBytes s j)
-  first-past r h f = both-over (bytes-past s a h) r f
+  -- the bytes differ: both names are over, or they are not the same
+  pub bytes-differ : (getD s a 0 ≡ getD s b 0 → ⊥) → (r : Bool) → r ≡ not (isNameChar (getD s a 0)) and not (isNameChar (getD s b 0)) → r ≡ equal (nameBytes s i) (nameBytes s j)
+  unfolding equal pairs
+  bytes-differ d r f = f ∙ sym (l ∙ go (isNameChar (getD s a 0)) (isNameChar (getD s b 0)) refl refl)
+    where
+      go : (t u : Bool) → isNameChar (getD s a 0) ≡ t → isNameChar (getD s b 0) ≡ u → equal (nameBytes s a) (nameBytes s b) ≡ not t and not u
+      go true true q p =
+          rw (bytes-go s a (holds-there isNameChar refl s a q) q, bytes-go s b (holds-there isNameChar refl s b p) p, ne-eqb (getD s a 0) (getD s b 0) d)
+      go true false q p = rw (bytes-go s a (holds-there isNameChar refl s a q) q, bytes-over s b p)
+      go false true q p = rw (bytes-over s a q, bytes-go s b (holds-there isNameChar refl s b p) p)
+      go false false q p = rw (bytes-over s a q, bytes-over s b p)
 
-  module _ (t : Bool) (e : t ≡ isNameChar (getD s a 0)) where
-    pub first-over : (r : Bool) → t ≡ false → r ≡ not (isNameChar (getD s b 0)) → r ≡ equal (nameBytes s i) (nameBytes s j)
-    first-over r f g = both-over (bytes-over s a (sym e ∙ f)) r g
+  module _ (d : getD s a 0 ≡ getD s b 0) (t : Bool) (e : t ≡ isNameChar (getD s b 0)) where
+    pub bytes-same : t ≡ true → Left s i j (a + 1) (b + 1)
+    unfolding equal pairs
+    bytes-same f =
+        let p : isNameChar (getD s b 0) ≡ true = sym e ∙ f in
+        let q : isNameChar (getD s a 0) ≡ true = ap isNameChar d ∙ p in
+        l ∙ rw (bytes-go s a (holds-there isNameChar refl s a q) q, bytes-go s b (holds-there isNameChar refl s b p) p, eq-eqb (getD s a 0) (getD s b 0) d)
 
-    module _ (h : a < length s) (f : t ≡ true) where
-      pub second-past : length s ≤ b → false ≡ equal (nameBytes s i) (nameBytes s j)
-      unfolding equal pairs
-      second-past g = sym (l ∙ rw (bytes-go s a h (sym e ∙ f), bytes-past s b g))
-
-      pub bytes-differ : b < length s → (getD s a 0 ≡ getD s b 0 → ⊥) → false ≡ equal (nameBytes s i) (nameBytes s j)
-      unfolding equal pairs
-      bytes-differ g d = sym (l ∙ rw (bytes-go s a h (sym e ∙ f)) (go (isNameChar (getD s b 0)) refl))
-        where
-          go : (u : Bool) → isNameChar (getD s b 0) ≡ u → equal (getD s a 0 ∷ nameBytes s (a + 1)) (nameBytes s b) ≡ false
-          go true q = rw (bytes-go s b g q, ne-eqb (getD s a 0) (getD s b 0) d)
-          go false q = rw (bytes-over s b q)
-
-      pub bytes-same : b < length s → getD s a 0 ≡ getD s b 0 → Left s i j (a + 1) (b + 1)
-      unfolding equal pairs
-      bytes-same g d = l ∙ rw (bytes-go s a h (sym e ∙ f), bytes-go s b g (ap isNameChar (sym d) ∙ sym e ∙ f), eq-eqb (getD s a 0) (getD s b 0) d)
+    pub bytes-end : t ≡ false → true ≡ equal (nameBytes s i) (nameBytes s j)
+    unfolding equal pairs
+    bytes-end f =
+        let p : isNameChar (getD s b 0) ≡ false = sym e ∙ f in
+        sym (l ∙ rw (bytes-over s a (ap isNameChar d ∙ p), bytes-over s b p))
 
 -- ---- where no name starts
 start-goes-on : (x : ℕ) → isNameStart x ≡ true → isNameChar x ≡ true

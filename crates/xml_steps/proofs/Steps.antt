@@ -105,13 +105,10 @@ module _ (s : List ℕ) (d : Reader) (numbers : List ℕ) (after : ℕ) (k : Ste
   unfolding reading turnOf adding closing
   first-next-fits = omega (arith, number-low 2 (omega arith), k .ahead, k .inside, k .short)
 
-  pub first-within : getD numbers (4 * d .top + 2) 0 + 1 ≤ length s
+  -- the open tag stands before the end tag
+  pub first-before : getD numbers (4 * d .top + 2) 0 + 1 ≤ d .at + 2
   unfolding reading turnOf adding closing
-  first-within = omega (arith, number-low 2 (omega arith), k .ahead, k .inside)
-
-  pub name-within : d .at + 2 ≤ length s
-  unfolding reading turnOf adding closing
-  name-within = omega (arith, k .ends refl .1, k .inside)
+  first-before = omega (arith, number-low 2 (omega arith))
 
   pub content-low : getD numbers (4 * d .top + 3) 0 ≤ d .at
   unfolding reading turnOf adding closing

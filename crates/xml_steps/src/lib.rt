@@ -3,7 +3,7 @@ ghost use mathlib.Core.Path.{_≡_};
 ghost use Prim.Native.Nat.{_+_, _*_, _≤_, _<_};
 ghost use mathlib.Core.List.{_++_};
 ghost use lib.ListN.{length, take, getD};
-ghost use Rattle.text_scan.specs.Choice.{not};
+ghost use Rattle.text_scan.specs.Choice.{_and_, not};
 ghost use Rattle.xml_reader.specs.Limits.{documentLimit, elementsLimit};
 ghost use Rattle.xml_names.specs.Names.{isNameStart, isNameChar, nameAt};
 ghost use Rattle.text_facts.specs.Strings.{equal};
@@ -101,33 +101,43 @@ fn name_over(s: &[u8], k: usize) -> bool
     !xml_names::is_name_char(s[k])
 }
 
-// Whether the bytes of names from two places on are the same.
+// Whether no byte of a name stands at either place.
+fn both_over(s: &[u8], a: usize, b: usize) -> bool
+    ensures { λ r. ⌜ r ≡ not (isNameChar (getD (now (s .entry)) a 0)) and not (isNameChar (getD (now (s .entry)) b 0)) ⌝ }
+{
+    if name_over(s, a) {
+        return name_over(s, b);
+    }
+    false
+}
+
+// Whether the bytes of names from two places on are the same. As long as they are, those of one tell whether both names go on.
 fn same_bytes(s: &[u8], i: usize, j: usize) -> bool
+    requires { ⌜ i ≤ j ⌝ }
     ensures { λ r. ⌜ r ≡ equal (nameBytes (now (s .entry)) i) (nameBytes (now (s .entry)) j) ⌝ }
 {
     let mut a = i;
     let mut b = j;
-    while a < s.len() {
-        if xml_names::is_name_char(s[a]) {
-            if s.len() <= b {
-                return false;
-            }
-            if s[a] != s[b] {
-                return false;
-            }
+    while b < s.len() {
+        let y = s[b];
+        let x = s[a];
+        if x != y {
+            return both_over(s, a, b);
+        }
+        if xml_names::is_name_char(y) {
             a += 1;
             b += 1;
             continue;
         }
-        return name_over(s, b);
+        return true;
     }
-    name_over(s, b)
+    name_over(s, a)
 }
 
 // Whether the names at two places are the same. Where a name starts at the first, its first byte tells whether one starts at the
 // second, so that place is not asked.
 fn same_name(s: &[u8], i: usize, j: usize) -> bool
-    requires { ⌜ (i ≤ length (now s)) × (j ≤ length (now s)) ⌝ }
+    requires { ⌜ i ≤ j ⌝ }
     ensures { λ r. ⌜ r ≡ equal (nameAt (now (s .entry)) i) (nameAt (now (s .entry)) j) ⌝ }
 {
     if starts_name(s, i) {

@@ -2,27 +2,40 @@
 -- Assumes nothing.
 use mathlib.Core.Path.{_≡_, refl, sym, _∙_, ap}
 use mathlib.Core.Bool.{Bool, true, false}
-use mathlib.Core.List.{List}
-use Prim.Native.Nat.{ℕ, _+_, _-_, _<_, _≤_}
+use mathlib.Core.List.{List, []}
+use Prim.Native.Nat.{ℕ, _+_, _-_, _<_, _≤_, _^_}
 use Prim.Native.Char.{code}
 use native.Mathlib.Nat.{zero-add}
 use native.Mathlib.Omega.{arith}
-use borrow.Author.Tests.{eq-eqb, ne-eqb, lt-ltb, le-ltb, le-leb, lt-leb, leb-true}
-use lib.Dec.{ltb, leb}
-use lib.ListN.{length, take, getD}
+use borrow.Author.Tests.{eq-eqb, ne-eqb, lt-ltb, le-ltb, le-leb, lt-leb, leb-true, eqb-true}
+use mir.Val.{Fits}
+use mir.Syntax.{w64}
+use lib.Dec.{eqb, ltb, leb}
+use lib.ListN.{length, take, drop, getD, drop-of-length-le}
 use lib.Seq.{sets, length-sets}
 use Rattle.text_scan.specs.Choice.{pick, _or_}
-use Rattle.text_scan.proofs.Tests.{pick-case, or-true}
+use Rattle.text_scan.proofs.Lists.{run-stops}
+use Rattle.text_scan.proofs.Tests.{pick-case, or-true, or-false}
+use Rattle.text_scan.proofs.Within.{there}
 use Rattle.xml_reader.specs.Limits.{nameLimit, valueLimit, attributesLimit}
 use Rattle.xml_tags.specs.declared.Body.{Body}
-use Rattle.xml_attributes.specs.declared.Tag.the-variants.{Refused}
+use Rattle.xml_attributes.specs.declared.TagPart.the-variants.{Ended}
+use Rattle.xml_attributes.specs.declared.Tag.{Tag}
+use Rattle.xml_attributes.specs.declared.Tag.the-variants.{Start, Refused}
+use Rattle.xml_names.specs.Names.{isSpace, spaceEnd}
 use Rattle.xml_names.specs.ElementNames.{elementEnd}
-use Rattle.xml_attributes.specs.Chains.{items, ending}
-use Rattle.xml_attributes.specs.Parts.{attributes, repeated}
+use Rattle.xml_attributes.specs.Chains.{last, items, ending}
+use Rattle.xml_attributes.specs.Parts.{partTo, partAt, attributes, someAttribute, someNamed, repeated}
 use Rattle.xml_tags.specs.Tags.{someLong, pastLimit, isRefused, tagAnswer, tagTo, tagAt}
 use Rattle.xml_tags.specs.Reading.{bodyOf}
 use Rattle.xml_tags.proofs.Reading.{brought}
 use Rattle.xml_attributes.proofs.Keeping.{kept-whole}
+use Rattle.xml_attributes.proofs.Parts.{attributes-stop}
+
+-- behind the last of the places stands none
+pub none-behind : (t s starts : List ℕ) (k : ℕ) → length starts ≤ k → false ≡ someNamed t s (drop k starts)
+unfolding someAttribute
+none-behind t s starts k h = rw (drop-of-length-le starts h)
 
 module _ (s starts : List ℕ) (count at : ℕ) (r : Bool) where
   pub by-places : count ≤ length starts → r ≡ repeated s (take count starts) → r ≡ pick (leb count (length starts)) (repeated s (take count starts)) (repeated s (items (attributes s at)))
@@ -47,6 +60,24 @@ swapped true false = refl
 swapped false true = refl
 swapped false false = refl
 
+-- ---- a tag without attributes
+pub closes-told : (s : List ℕ) (n b : ℕ) → b ≡ getD s n 0 → eqb b (code ">") ≡ eqb (getD s n 0) (code ">")
+closes-told s n b e = rw e
+
+pub closes-fits : (s : List ℕ) (n : ℕ) (t : Bool) → t ≡ eqb (getD s n 0) (code ">") → t ≡ true → length s < 2 ^ 64 → Fits w64 (n + 1)
+closes-fits s n t e f l = omega (arith, there s n (code ">") (omega arith) (eqb-true (getD s n 0) (code ">") (sym e ∙ f)))
+
+module _ (m j : ℕ) where
+  pub bare-long : nameLimit < m → Refused 8 ≡ pick (ltb nameLimit m) (Refused 8) (Start j)
+  bare-long h = rw (lt-ltb nameLimit m h)
+
+  pub bare-short : m ≤ nameLimit → Start j ≡ pick (ltb nameLimit m) (Refused 8) (Start j)
+  bare-short h = rw (le-ltb nameLimit m h)
+
+bare-answer : (s : List ℕ) (m j : ℕ) → tagAnswer s m [] (Start j) ≡ pick (ltb nameLimit m) (Refused 8) (Start j)
+unfolding tagAnswer someAttribute
+bare-answer s m j = ap (λ t. pick t (Refused 8) (Start j)) (or-false (ltb nameLimit m))
+
 -- ---- piece by piece
 module _ (s : List ℕ) (at b : ℕ) (eb : b ≡ getD s at 0) where
   pub no-tag : (b ≡ code "<" → ⊥) → Refused 7 ≡ tagAt s at
@@ -57,6 +88,17 @@ module _ (s : List ℕ) (at b : ℕ) (eb : b ≡ getD s at 0) where
     pub no-element : n ≤ at + 1 → Refused 7 ≡ tagAt s at
     unfolding tagTo
     no-element h = rw (← eb, eq-eqb b (code "<") y, ← en, le-ltb (at + 1) n h)
+
+    -- straight behind the name stands '>'
+    pub tag-bare : at + 1 < n → (t : Bool) → t ≡ eqb (getD s n 0) (code ">") → t ≡ true → (r : Tag) → r ≡ pick (ltb nameLimit (n - (at + 1))) (Refused 8) (Start (n + 1)) → r ≡ tagAt s at
+    unfolding tagTo partTo items ending
+    tag-bare h t et ft r er =
+        let z : getD s n 0 ≡ code ">" = eqb-true (getD s n 0) (code ">") (sym et ∙ ft) in
+        let within : n < length s = there s n (code ">") (omega arith) z in
+        let here : n ≡ spaceEnd s n = run-stops isSpace s n n refl (isSpace (code ">")) within (ap isSpace (sym z)) refl in
+        let part : Ended (Start (n + 1)) ≡ partAt s n = rw (← here, ← et, ft) in
+        let row : attributes s n ≡ last (Start (n + 1)) = attributes-stop s n (Ended (Start (n + 1))) part (Start (n + 1)) refl within in
+        er ∙ sym (rw (← eb, eq-eqb b (code "<") y, ← en, lt-ltb (at + 1) n h, row) (bare-answer s (n - (at + 1)) (n + 1)))
 
     module _ (h : at + 1 < n) (body : Body) (e : body ≡ bodyOf s 0 false (attributes s n)) where
       tells : body ≡ record { ending = ending (attributes s n); count = 0 + length (items (attributes s n)); over = someLong s (items (attributes s n)) }

@@ -2,12 +2,13 @@
 ghost use mathlib.Core.Path.{_≡_};
 ghost use mathlib.Core.Bool.{false};
 ghost use Prim.Native.Nat.{_+_, _<_};
-ghost use lib.Dec.{ltb, leb};
+ghost use lib.Dec.{eqb, ltb, leb};
 ghost use lib.ListN.{length, drop, take, getD, set};
 ghost use lib.Seq.{sets};
 ghost use Rattle.text_scan.specs.Choice.{pick, _or_};
 ghost use Rattle.xml_names.specs.Names.{nameAt};
 ghost use Rattle.xml_reader.specs.Limits.{nameLimit, valueLimit, attributesLimit};
+ghost use Rattle.xml_attributes.specs.declared.Tag.the-variants.{Start, Refused};
 ghost use Rattle.xml_attributes.specs.Chains.{items};
 ghost use Rattle.xml_attributes.specs.Parts.{attributes, someNamed, repeated};
 ghost use Rattle.xml_tags.specs.Tags.{tagAt, isRefused, faultless, openingAt};
@@ -62,12 +63,16 @@ fn named_again(s: &[u8], starts: &[usize], k: usize) -> bool
     requires { ⌜ k < length (now starts) ⌝ }
     ensures { λ r. ⌜ r ≡ someNamed (nameAt (now (s .entry)) (getD (now (starts .entry)) k 0)) (now (s .entry)) (drop (k + 1) (now (starts .entry))) ⌝ }
 {
+    let next = k + 1;
+    if starts.len() <= next {
+        return false;
+    }
     let b = starts[k];
     let e = xml_names::name_end(s, b);
     if s.len() < e {
-        return some_named(s, b"", starts, k + 1);
+        return some_named(s, b"", starts, next);
     }
-    some_named(s, &s[b..e], starts, k + 1)
+    some_named(s, &s[b..e], starts, next)
 }
 
 // Whether two of the attributes at these places have the same name.
@@ -164,7 +169,24 @@ fn is_refused(t: Tag) -> bool
     }
 }
 
-// The start tag or empty-element tag that begins at `at`.
+// Whether `>` stands at n.
+fn closes(s: &[u8], n: usize) -> bool
+    ensures { λ r. ⌜ r ≡ eqb (getD (now (s .entry)) n 0) 62 ⌝ }
+{
+    text_scan::byte(s, n) == 62
+}
+
+// A start tag that is a name of m bytes alone.
+fn bare(m: usize, after: usize) -> Tag
+    ensures { λ r. ⌜ r ≡ pick (ltb nameLimit m) (Refused 8) (Start after) ⌝ }
+{
+    if Reader::NAME < m {
+        return Tag::Refused(8);
+    }
+    Tag::Start(after)
+}
+
+// The start tag or empty-element tag that begins at `at`. Most have no attributes and end straight behind the name: that is asked first.
 pub fn tag_at(s: &[u8], at: usize) -> Tag
     ensures { λ r. ⌜ r ≡ tagAt (now (s .entry)) at ⌝ }
 {
@@ -174,6 +196,10 @@ pub fn tag_at(s: &[u8], at: usize) -> Tag
     let n = xml_names::element_end(s, at + 1);
     if n <= at + 1 {
         return Tag::Refused(7);
+    }
+    if closes(s, n) {
+        let after = n + 1;
+        return bare(n - (at + 1), after);
     }
     let mut starts = [0usize; Reader::ATTRIBUTES];
     let body = read(s, n, &mut starts);

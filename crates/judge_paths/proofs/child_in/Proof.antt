@@ -2,31 +2,37 @@
 -- Assumes nothing.
 use Prim.Native.Nat.{_-_}
 use lib.ListN.{length}
-use Rattle.judge_paths.proofs.Words.{Looked, looked-none, looked-last, looked-is, looked-past, looked-next, end-ahead, end-within, number-fits, after-fits, less-left}
+use Rattle.judge_paths.proofs.Words.{Looked, looked-none, looked-last, looked-is, looked-past, looked-next, word-ends, word-fits, after-fits}
 use borrow.Author.Needs.{needs}
 use Rattle.judge_paths.proofs.child_in.Statement.{statement}
 use Rattle.judge_paths.proofs.child_in.Tie as tie
 
 abbrev Inv-loop : tie.InvT-loop
-Inv-loop name words roles at₀ number₀ at number = Looked words roles name at number
+Inv-loop name words lengths roles at₀ number₀ at number = Looked words lengths roles name at number
 
 abbrev μ-loop : tie.MeasureT-loop
-μ-loop name words roles at₀ number₀ at number = length words - at
+μ-loop name words lengths roles at₀ number₀ at number = length lengths - number
 
 loop-holds : tie.Need-loop-holds Inv-loop μ-loop
-loop-holds c = looked-none _ _ _
+loop-holds c = search looked-none
 
-word-end-requires : tie.Need-word-end-requires Inv-loop μ-loop
-word-end-requires c κs = search needs
+mul-end : tie.Need-mul-end Inv-loop μ-loop
+mul-end c = search needs
+
+shared-slice-read-end : tie.Need-shared-slice-read-end Inv-loop μ-loop
+shared-slice-read-end c = search needs
+
+add-end : tie.Need-add-end Inv-loop μ-loop
+add-end c = search (word-fits, needs)
 
 sub-same : tie.Need-sub-same Inv-loop μ-loop
-sub-same c = search end-ahead
+sub-same c = search needs
 
 part-same-start : tie.Need-part-same-start Inv-loop μ-loop
-part-same-start c = search end-ahead
+part-same-start c = search needs
 
 part-same-end : tie.Need-part-same-end Inv-loop μ-loop
-part-same-end c = search end-within
+part-same-end c = search word-ends
 
 same-requires : tie.Need-same-requires Inv-loop μ-loop
 same-requires c κs = search needs
@@ -47,10 +53,10 @@ add-at : tie.Need-add-at Inv-loop μ-loop
 add-at c = search (after-fits, needs)
 
 add-number : tie.Need-add-number Inv-loop μ-loop
-add-number c = search (number-fits, needs)
+add-number c = search needs
 
 loop-less : tie.Need-loop-less Inv-loop μ-loop
-loop-less c = search less-left
+loop-less c = search needs
 
 loop-again : tie.Need-loop-again Inv-loop μ-loop
 loop-again c = search (looked-last, looked-is, looked-past, looked-next)
@@ -65,7 +71,9 @@ child-in-spec =
     Inv-loop
     μ-loop
     loop-holds
-    word-end-requires
+    mul-end
+    shared-slice-read-end
+    add-end
     sub-same
     part-same-start
     part-same-end

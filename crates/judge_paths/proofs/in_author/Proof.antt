@@ -1,6 +1,8 @@
 -- `judge_paths::in_author` meets its contract.
 -- Assumes nothing.
 use Rattle.judge_paths.proofs.Children.{of-type, author-registration, author-request, author-neither}
+use mathlib.Core.Path.{refl}
+use Rattle.judge_paths.specs.Words.{spanOf}
 use borrow.Author.Needs.{needs}
 use Rattle.judge_paths.proofs.in_author.Statement.{statement}
 use Rattle.judge_paths.proofs.in_author.Tie as tie
@@ -17,20 +19,28 @@ slice-aggregate-child-in c = search needs
 slice-aggregate-child-in-2 : tie.Need-slice-aggregate-child-in-2
 slice-aggregate-child-in-2 c = search needs
 
+slice-aggregate-child-in-3 : tie.Need-slice-aggregate-child-in-3
+slice-aggregate-child-in-3 c = search needs
+
 child-in-requires : tie.Need-child-in-requires
-child-in-requires c κs = search needs
+unfolding spanOf
+child-in-requires c κs = refl
 
 enum-told-3 : tie.Need-enum-told-3
 enum-told-3 c = search needs
 
-slice-aggregate-child-in-3 : tie.Need-slice-aggregate-child-in-3
-slice-aggregate-child-in-3 c = search needs
-
 slice-aggregate-child-in-4 : tie.Need-slice-aggregate-child-in-4
 slice-aggregate-child-in-4 c = search needs
 
+slice-aggregate-child-in-5 : tie.Need-slice-aggregate-child-in-5
+slice-aggregate-child-in-5 c = search needs
+
+slice-aggregate-child-in-6 : tie.Need-slice-aggregate-child-in-6
+slice-aggregate-child-in-6 c = search needs
+
 child-in-requires-2 : tie.Need-child-in-requires-2
-child-in-requires-2 c κs = search needs
+unfolding spanOf
+child-in-requires-2 c κs = refl
 
 returns : tie.Need-returns
 returns c = search (of-type, author-registration, author-request, author-neither, needs)
@@ -49,10 +59,12 @@ in-author-spec =
     enum-told-2
     slice-aggregate-child-in
     slice-aggregate-child-in-2
+    slice-aggregate-child-in-3
     child-in-requires
     enum-told-3
-    slice-aggregate-child-in-3
     slice-aggregate-child-in-4
+    slice-aggregate-child-in-5
+    slice-aggregate-child-in-6
     child-in-requires-2
     returns
     returns-2

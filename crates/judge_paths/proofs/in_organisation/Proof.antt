@@ -1,6 +1,8 @@
 -- `judge_paths::in_organisation` meets its contract.
 -- Assumes nothing.
 use Rattle.judge_paths.proofs.Children.{of-parent, registrant-words, establishment-words, agent-words, no-organisation}
+use mathlib.Core.Path.{refl}
+use Rattle.judge_paths.specs.Words.{spanOf}
 use borrow.Author.Needs.{needs}
 use Rattle.judge_paths.proofs.in_organisation.Statement.{statement}
 use Rattle.judge_paths.proofs.in_organisation.Tie as tie
@@ -11,23 +13,18 @@ slice-aggregate-child-in c = search needs
 slice-aggregate-child-in-2 : tie.Need-slice-aggregate-child-in-2
 slice-aggregate-child-in-2 c = search needs
 
+slice-aggregate-child-in-3 : tie.Need-slice-aggregate-child-in-3
+slice-aggregate-child-in-3 c = search needs
+
 child-in-requires : tie.Need-child-in-requires
-child-in-requires c κs = search needs
+unfolding spanOf
+child-in-requires c κs = refl
 
 returns : tie.Need-returns
 returns c = search (of-parent, registrant-words, establishment-words, agent-words, no-organisation, needs)
 
-slice-aggregate-child-in-3 : tie.Need-slice-aggregate-child-in-3
-slice-aggregate-child-in-3 c = search needs
-
 slice-aggregate-child-in-4 : tie.Need-slice-aggregate-child-in-4
 slice-aggregate-child-in-4 c = search needs
-
-child-in-requires-2 : tie.Need-child-in-requires-2
-child-in-requires-2 c κs = search needs
-
-returns-2 : tie.Need-returns-2
-returns-2 c = search (of-parent, registrant-words, establishment-words, agent-words, no-organisation, needs)
 
 slice-aggregate-child-in-5 : tie.Need-slice-aggregate-child-in-5
 slice-aggregate-child-in-5 c = search needs
@@ -35,8 +32,25 @@ slice-aggregate-child-in-5 c = search needs
 slice-aggregate-child-in-6 : tie.Need-slice-aggregate-child-in-6
 slice-aggregate-child-in-6 c = search needs
 
+child-in-requires-2 : tie.Need-child-in-requires-2
+unfolding spanOf
+child-in-requires-2 c κs = refl
+
+returns-2 : tie.Need-returns-2
+returns-2 c = search (of-parent, registrant-words, establishment-words, agent-words, no-organisation, needs)
+
+slice-aggregate-child-in-7 : tie.Need-slice-aggregate-child-in-7
+slice-aggregate-child-in-7 c = search needs
+
+slice-aggregate-child-in-8 : tie.Need-slice-aggregate-child-in-8
+slice-aggregate-child-in-8 c = search needs
+
+slice-aggregate-child-in-9 : tie.Need-slice-aggregate-child-in-9
+slice-aggregate-child-in-9 c = search needs
+
 child-in-requires-3 : tie.Need-child-in-requires-3
-child-in-requires-3 c κs = search needs
+unfolding spanOf
+child-in-requires-3 c κs = refl
 
 returns-3 : tie.Need-returns-3
 returns-3 c = search (of-parent, registrant-words, establishment-words, agent-words, no-organisation, needs)
@@ -50,14 +64,17 @@ in-organisation-spec =
     (tie.spec
     slice-aggregate-child-in
     slice-aggregate-child-in-2
+    slice-aggregate-child-in-3
     child-in-requires
     returns
-    slice-aggregate-child-in-3
     slice-aggregate-child-in-4
-    child-in-requires-2
-    returns-2
     slice-aggregate-child-in-5
     slice-aggregate-child-in-6
+    child-in-requires-2
+    returns-2
+    slice-aggregate-child-in-7
+    slice-aggregate-child-in-8
+    slice-aggregate-child-in-9
     child-in-requires-3
     returns-3
     returns-4)

@@ -1,17 +1,15 @@
--- `xml_names::is_element_char` meets its contract; of small letters and what stands behind them antt computes all.
+-- `xml_names::is_element_char` meets its contract; of the small letters antt computes all.
 -- Assumes nothing.
-use lib.Dec.{ltb}
-use native.Mathlib.Omega.{arith}
-use Rattle.text_scan.proofs.Bytes.{range}
 use Rattle.xml_names.specs.Names.{isNameChar}
 use Rattle.xml_names.specs.ElementNames.{isElementChar}
+use Rattle.xml_names.proofs.Names.{small-letter}
 use Rattle.xml_names.proofs.ElementNames.{colon, no-colon}
 use borrow.Author.Needs.{needs}
 use Rattle.xml_names.proofs.is_element_char.Statement.{statement}
 use Rattle.xml_names.proofs.is_element_char.Tie as tie
 
 returns : tie.Need-returns
-returns c = range (λ b. ltb b 123) isElementChar 97 255 tt (c .before .args .b) (omega arith) (omega arith)
+returns c = search (small-letter isElementChar tt)
 
 returns-2 : tie.Need-returns-2
 returns-2 c = search (colon isNameChar)

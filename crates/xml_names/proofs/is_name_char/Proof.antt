@@ -6,12 +6,13 @@ use lib.Dec.{ltb}
 use native.Mathlib.Omega.{arith}
 use Rattle.text_scan.proofs.Bytes.{range}
 use Rattle.xml_names.specs.Names.{isNameStart, isNameChar}
+use Rattle.xml_names.proofs.Names.{small-letter}
 use borrow.Author.Needs.{needs}
 use Rattle.xml_names.proofs.is_name_char.Statement.{statement}
 use Rattle.xml_names.proofs.is_name_char.Tie as tie
 
 returns : tie.Need-returns
-returns c = range (λ b. ltb b 123) isNameChar 97 255 tt (c .before .args .b) (omega arith) (omega arith)
+returns c = search (small-letter isNameChar tt)
 
 returns-2 : tie.Need-returns-2
 returns-2 c = range (λ _. false) isNameChar 0 44 tt (c .before .before .before .args .b) (omega arith) (omega arith)
@@ -26,7 +27,7 @@ is-name-start-requires : tie.Need-is-name-start-requires
 is-name-start-requires c κs = search needs
 
 returns-5 : tie.Need-returns-5
-returns-5 c = c .is-name-start .ensures ∙ range isNameStart isNameChar 59 96 tt (c .before .before .before .before .args .b) (omega arith) (omega arith)
+returns-5 c = c .is-name-start .ensures ∙ range isNameStart isNameChar 59 255 tt (c .before .before .before .before .args .b) (omega arith) (omega arith)
 
 pub is-name-char-spec : {M : Type 1} → statement M
 is-name-char-spec =

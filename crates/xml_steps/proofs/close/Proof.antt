@@ -3,7 +3,7 @@
 use mathlib.Core.Path.{refl}
 use lib.ListN.{length-set}
 use Rattle.xml_steps.specs.Walked.{reading}
-use Rattle.xml_steps.proofs.Steps.{deep-enough, parent-fits, first-fits, first-next-fits, first-within, name-within, content-low, top-inside, rows-inside, few-rows, other-name, too-long, is-closed}
+use Rattle.xml_steps.proofs.Steps.{deep-enough, parent-fits, first-fits, first-next-fits, first-before, content-low, top-inside, rows-inside, few-rows, other-name, too-long, is-closed}
 use borrow.Author.Needs.{needs}
 use Rattle.xml_steps.proofs.close.Statement.{statement}
 use Rattle.xml_steps.proofs.close.Tie as tie
@@ -50,7 +50,7 @@ unfolding reading
 add-same-name-2 c = search needs
 
 same-name-requires : tie.Need-same-name-requires
-same-name-requires c κs = (search first-within, search name-within)
+same-name-requires c κs = search first-before
 
 content-fits-requires : tie.Need-content-fits-requires
 content-fits-requires c κs = (search top-inside, search rows-inside, search content-low, search few-rows)
