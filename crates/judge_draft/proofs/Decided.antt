@@ -1,6 +1,7 @@
 -- The contracts of this crate decide what is answered and left.
 -- Assumes nothing.
 use Rattle.text_scan.proofs.Decides.{only, Answers}
+use Rattle.judge_draft.proofs.number
 use Rattle.judge_draft.proofs.role_at
 use Rattle.judge_draft.proofs.is_role
 use Rattle.judge_draft.proofs.is_known
@@ -13,6 +14,9 @@ use Rattle.judge_draft.proofs.attribute_is_empty
 use Rattle.judge_draft.proofs.attribute_has
 use Rattle.judge_draft.proofs.text_is
 use Rattle.judge_draft.proofs.text_is_empty
+
+pub number_decided : Answers number.Kinds.ps number.Kinds.r number.Reads.Post
+number_decided κs a x y s t p q = only p.0 q.0
 
 pub role_at_decided : Answers role_at.Kinds.ps role_at.Kinds.r role_at.Reads.Post
 role_at_decided κs a x y s t = only

@@ -1,42 +1,44 @@
--- What is lent is the draft: the numbers of an element, a role, a value that is held or was read.
+-- What is lent is the draft: the numbers of an element, a role, a value that was read.
 -- Assumes nothing.
 use mathlib.Core.Path.{◌≡◌, refl, sym, ◌∙◌, ap}
-use mathlib.Core.Bool.{Bool}
+use mathlib.Core.Bool.{Bool, true, false}
 use mathlib.Core.List.{List, [], ◌∷◌}
-use Prim.Native.Nat.{ℕ, ◌+◌, ◌*◌, ◌≤◌}
+use Prim.Native.Nat.{ℕ, ◌+◌, ◌*◌, ◌<◌, ◌≤◌, ◌^◌}
 use native.Mathlib.Omega.{arith}
 use borrow.Author.Tests.{ne_eqb}
 use lib.Dec.{eqb, ltb}
-use lib.ListN.{length, get_or}
+use lib.ListN.{length, get_or, get_or-eq_default}
 use Rattle.text_scan.specs.Lists.{pairs}
 use Rattle.text_facts.specs.Strings.{equal, begins_with}
-use Rattle.xml_references.specs.Decoded.{part}
-use Rattle.xml_values.specs.declared.Place.{Place}
-use Rattle.xml_values.specs.declared.Place.TheVariants.{At, Nothing}
 use Rattle.xml_values.specs.Attributes.{attribute_of}
 use Rattle.xml_texts.specs.Texts.{text_of}
 use Rattle.text_numbers.specs.Numbers.{version_of}
-use Rattle.judge_kept.specs.Kept.{rows_in, attribute_held, text_held, value_in, words_in}
-use Rattle.judge_kept.proofs.Run.{Stands, attribute_within, text_within}
 use Rattle.judge_draft.specs.declared.Form.{Form}
 use Rattle.judge_draft.specs.declared.Form.TheVariants.{Version}
 use Rattle.judge_draft.specs.Forms.{has_form}
 use Rattle.judge_draft.specs.Drafts.{draft, role, parent, first, after, is, is_known, attribute, said, is_empty}
 
+-- ---- past the end of the notes
+pub no_note : (notes : List ℕ) (n k : ℕ) → length notes ≤ n → 0 ≡ get_or notes (4 * n + k) 0
+no_note notes n k h = sym (get_or-eq_default notes 0 (omega arith))
+
+pub no_number : (notes : List ℕ) (i : ℕ) → length notes ≤ i → 0 ≡ get_or notes i 0
+no_number notes i h = sym (get_or-eq_default notes 0 h)
+
 module _ (s notes : List ℕ) (n : ℕ) where
-  pub note_parent : (r : ℕ) → r ≡ get_or (rows_in notes) (4 * n + 1) 0 → r ≡ parent (draft s notes) n
+  pub note_parent : (r : ℕ) → r ≡ get_or notes (4 * n + 1) 0 → r ≡ parent (draft s notes) n
   unfolding draft
   note_parent r e = e
 
-  pub note_first : (r : ℕ) → r ≡ get_or (rows_in notes) (4 * n + 2) 0 → r ≡ first (draft s notes) n
+  pub note_first : (r : ℕ) → r ≡ get_or notes (4 * n + 2) 0 → r ≡ first (draft s notes) n
   unfolding draft
   note_first r e = e
 
-  pub note_after : (r : ℕ) → r ≡ get_or (rows_in notes) (4 * n + 3) 0 → r ≡ after (draft s notes) n
+  pub note_after : (r : ℕ) → r ≡ get_or notes (4 * n + 3) 0 → r ≡ after (draft s notes) n
   unfolding draft
   note_after r e = e
 
-  module _ (x : ℕ) (e : x ≡ get_or (rows_in notes) (4 * n + 0) 0) where
+  module _ (x : ℕ) (e : x ≡ get_or notes (4 * n + 0) 0) where
     pub note_role : x ≡ role (draft s notes) n
     unfolding draft
     note_role =
@@ -51,62 +53,21 @@ module _ (s notes : List ℕ) (n : ℕ) where
     unfolding is_known
     known_is = rw note_role
 
-  -- ---- an attribute: by the place at which it is held, or by what was read
-  module _ (name : List ℕ) (p : Place) (ep : p ≡ attribute_held s notes n name) where
-    module _ (a e : ℕ) (z : p ≡ At a e) where
-      stands : Stands s (At a e)
-      stands = rw (sym ep ∙ z) at (attribute_within s notes n name)
+  -- what was read at the first byte
+  module _ (f : ℕ) (e : f ≡ first (draft s notes) n) where
+    pub attribute_read : (name v : List ℕ) → v ≡ attribute_of s f name → v ≡ attribute (draft s notes) n name
+    unfolding draft attribute
+    attribute_read name v g = g ∙ rw e
 
-      pub held_ahead : a ≤ e
-      held_ahead = stands.0
+    pub text_read : (v : List ℕ) → v ≡ text_of s f → v ≡ said (draft s notes) n
+    unfolding draft said
+    text_read v g = g ∙ rw e
 
-      pub held_inside : e ≤ length s
-      held_inside = stands.1
-
-      pub held_says : part s a e ≡ attribute (draft s notes) n name
-      unfolding draft attribute value_in
-      held_says = rw (sym ep ∙ z)
-
-    module _ (z : p ≡ Nothing) (f : ℕ) (ef : f ≡ get_or (rows_in notes) (4 * n + 2) 0) where
-      pub read_says : (v : List ℕ) → v ≡ attribute_of s f name → v ≡ attribute (draft s notes) n name
-      unfolding draft attribute value_in
-      read_says v g = g ∙ rw (ef, sym ep ∙ z)
-
-  -- ---- the text
-  module _ (p : Place) (ep : p ≡ text_held s notes n) where
-    module _ (a e : ℕ) (z : p ≡ At a e) where
-      text_stands : Stands s (At a e)
-      text_stands = rw (sym ep ∙ z) at (text_within s notes n)
-
-      pub text_ahead : a ≤ e
-      text_ahead = text_stands.0
-
-      pub text_inside : e ≤ length s
-      text_inside = text_stands.1
-
-      pub text_says : part s a e ≡ said (draft s notes) n
-      unfolding draft said words_in
-      text_says = rw (sym ep ∙ z)
-
-    module _ (z : p ≡ Nothing) (f : ℕ) (ef : f ≡ get_or (rows_in notes) (4 * n + 2) 0) where
-      pub text_read : (v : List ℕ) → v ≡ text_of s f → v ≡ said (draft s notes) n
-      unfolding draft said words_in
-      text_read v g = g ∙ rw (ef, sym ep ∙ z)
-
--- ---- a test of what it says
-module _ (v said w : List ℕ) (e : v ≡ said) (r : Bool) where
-  pub tested_equal : r ≡ equal v w → r ≡ equal said w
-  tested_equal g = g ∙ rw e
-
-  pub tested_begins : r ≡ begins_with w v → r ≡ begins_with w said
-  tested_begins g = g ∙ rw e
-
-  pub tested_form : (form : Form) → r ≡ has_form form v → r ≡ has_form form said
-  tested_form form g = g ∙ rw e
-
--- an attribute that was compared where it stands
-pub read_equal : (s notes : List ℕ) (n : ℕ) (name : List ℕ) (p : Place) → p ≡ attribute_held s notes n name → p ≡ Nothing → (f : ℕ) → f ≡ get_or (rows_in notes) (4 * n + 2) 0 → (w : List ℕ) (r : Bool) → r ≡ equal (attribute_of s f name) w → r ≡ equal (attribute (draft s notes) n name) w
-read_equal s notes n name p ep z f ef w r g = g ∙ ap (λ v. equal v w) (read_says s notes n name p ep z f ef (attribute_of s f name) refl)
+  -- ---- a test that was made of it
+  module _ {A : Type 0} (test : List ℕ → A) (f : ℕ) (e : f ≡ first (draft s notes) n) where
+    pub attribute_asked : (name : List ℕ) (r : A) → r ≡ test (attribute_of s f name) → r ≡ test (attribute (draft s notes) n name)
+    unfolding draft attribute
+    attribute_asked name r g = g ∙ rw e
 
 -- nothing but the empty string equals it
 equal_empty : (x : List ℕ) → equal x [] ≡ is_empty x
@@ -114,8 +75,31 @@ unfolding equal pairs
 equal_empty [] = refl
 equal_empty (b ∷ x) = sym (ne_eqb (length (b ∷ x)) 0 (λ h. omega arith))
 
-pub equals_nothing : (x : List ℕ) (r : Bool) → r ≡ equal x [] → r ≡ is_empty x
-equals_nothing x r g = g ∙ equal_empty x
+module _ (s notes : List ℕ) (n f : ℕ) (e : f ≡ first (draft s notes) n) (name : List ℕ) (r : Bool) where
+  pub attribute_equal : (w : List ℕ) → r ≡ equal (attribute_of s f name) w → r ≡ equal (attribute (draft s notes) n name) w
+  attribute_equal w = attribute_asked s notes n (λ x. equal x w) f e name r
+
+  pub attribute_missing : r ≡ equal (attribute_of s f name) [] → r ≡ is_empty (attribute (draft s notes) n name)
+  attribute_missing g = attribute_asked s notes n is_empty f e name r (g ∙ equal_empty (attribute_of s f name))
+
+-- ---- a test of what was read
+module _ {A : Type 0} (test : List ℕ → A) (s notes : List ℕ) (n f : ℕ) (e : f ≡ first (draft s notes) n) (v : List ℕ) where
+  pub attribute_tested : (name : List ℕ) → v ≡ attribute_of s f name → (r : A) → r ≡ test v → r ≡ test (attribute (draft s notes) n name)
+  attribute_tested name g r h = h ∙ ap test (attribute_read s notes n f e name v g)
+
+  pub text_tested : v ≡ text_of s f → (r : A) → r ≡ test v → r ≡ test (said (draft s notes) n)
+  text_tested g r h = h ∙ ap test (text_read s notes n f e v g)
+
+module _ (s notes : List ℕ) (n f : ℕ) (e : f ≡ first (draft s notes) n) (v : List ℕ) where
+  pub text_missing : v ≡ text_of s f → (r : Bool) → r ≡ equal v [] → r ≡ is_empty (said (draft s notes) n)
+  text_missing g r h = text_tested is_empty s notes n f e v g r (h ∙ equal_empty v)
+
+module _ (s notes : List ℕ) (n f : ℕ) (e : f ≡ first (draft s notes) n) (v w : List ℕ) where
+  pub attribute_begins : (name : List ℕ) → v ≡ attribute_of s f name → (r : Bool) → r ≡ begins_with w v → r ≡ begins_with w (attribute (draft s notes) n name)
+  attribute_begins = attribute_tested (begins_with w) s notes n f e v
+
+  pub text_equals : v ≡ text_of s f → (r : Bool) → r ≡ equal v w → r ≡ equal (said (draft s notes) n) w
+  text_equals = text_tested (λ x. equal x w) s notes n f e v
 
 -- ---- a form that was asked of a value
 pub formed : (k form : Form) (v : List ℕ) → form ≡ k → (r : Bool) → r ≡ has_form k v → r ≡ has_form form v
@@ -124,3 +108,7 @@ formed k form v e r g = g ∙ rw e
 module _ (form : Form) (v : List ℕ) where
   pub version_formed : form ≡ Version → (n : ℕ) → n ≡ version_of v → ltb 0 n ≡ has_form form v
   version_formed e n g = rw (e, g)
+
+  -- and of what was read
+  pub attribute_formed : (s notes : List ℕ) (n f : ℕ) → f ≡ first (draft s notes) n → (name : List ℕ) → v ≡ attribute_of s f name → (r : Bool) → r ≡ has_form form v → r ≡ has_form form (attribute (draft s notes) n name)
+  attribute_formed s notes n f e = attribute_tested (has_form form) s notes n f e v

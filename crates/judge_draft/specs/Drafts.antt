@@ -5,49 +5,27 @@ use Rattle.std.specs.Prelude.{ℕ, ◌*◌, ◌/◌, Bool, List, eqb, length, ge
 use Rattle.text_scan.specs.Bytes.{text}
 use Rattle.text_facts.specs.Strings.{equal, begins_with}
 use Rattle.xml_steps.specs.Reading.{parent_of, first_of, after_of}
-use Rattle.xml_values.specs.Attributes.{attribute_of, has_other}
+use Rattle.xml_values.specs.Attributes.{attribute_of}
 use Rattle.xml_texts.specs.Texts.{text_of}
 use Rattle.judge_paths.specs.Roles.{is_known_role}
-use Rattle.judge_paths.specs.Attributes.{attribute_table, listed_names}
-use Rattle.judge_kept.specs.Kept.{rows_in, value_in, words_in, other_in}
 use Rattle.judge_draft.specs.Below.{all_below}
 use Rattle.judge_draft.specs.Searched.{searched}
 
--- the document; its notes: for each element its role, its parent, its first byte and the byte after its end; the elements so many levels below
--- an element that have a property, in document order; what the attribute of a name and what the text of an element says; and whether an element has an
--- attribute that is not empty and that its role does not list
+-- the document; its notes: for each element its role, its parent, its first byte and the byte after its end; and the elements so many levels below
+-- an element that have a property, in document order
 pub record Draft : Type 0 where
   pub bytes : List ℕ
   pub notes : List ℕ
   pub below : ℕ → (ℕ → Bool) → ℕ → List ℕ
-  pub value : ℕ → List ℕ → List ℕ
-  pub words : ℕ → List ℕ
-  pub unlisted : ℕ → Bool
 
--- of a document with these notes: below an element is all that stands there, and it says what stands in its tag and in its content
+-- of a document with these notes: below an element is all that stands there
 unfoldable pub full_draft : List ℕ → List ℕ → Draft
-full_draft bytes notes =
-    record {
-      bytes = bytes;
-      notes = notes;
-      below = all_below notes;
-      value = λ n name. attribute_of bytes (first_of notes n) name;
-      words = λ n. text_of bytes (first_of notes n);
-      unlisted = λ n. has_other bytes (first_of notes n) (listed_names (get_or notes (4 * n) 0) attribute_table);
-    }
+full_draft bytes notes = record { bytes = bytes; notes = notes; below = all_below notes }
 
--- as the code has it, which looks for what stands below an element, and has kept where values stand. Where the notes were taken of a table in document
--- order it is the full draft (law `draft_full`, `judge_type/proofs/Ordered`)
+-- as the code has it, which looks for what stands below an element. Where the notes are in document order it is the full draft
+-- (law `draft_full`, `judge_type/proofs/Ordered`)
 unfoldable pub draft : List ℕ → List ℕ → Draft
-draft bytes run =
-    record {
-      bytes = bytes;
-      notes = rows_in run;
-      below = searched (rows_in run);
-      value = value_in bytes run;
-      words = words_in bytes run;
-      unlisted = other_in bytes run;
-    }
+draft bytes notes = record { bytes = bytes; notes = notes; below = searched notes }
 
 -- the number of elements
 abbrev pub element_count : Draft → ℕ
@@ -75,10 +53,10 @@ is_known d n = is_known_role (role d n)
 
 -- what the attribute of this name says, and what the element's text says
 unfoldable pub attribute : Draft → ℕ → List ℕ → List ℕ
-attribute d n name = d.value n name
+attribute d n name = attribute_of d.bytes (first d n) name
 
 unfoldable pub said : Draft → ℕ → List ℕ
-said d n = d.words n
+said d n = text_of d.bytes (first d n)
 
 abbrev pub is_empty : List ℕ → Bool
 is_empty s = eqb (length s) 0

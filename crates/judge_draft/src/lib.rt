@@ -1,12 +1,11 @@
 // A draft that was read, for the procedures. It is lent as its document and its notes: what an attribute or the text of an element says, put to a
 // test. The tests look at the document itself where a value says the bytes that stand there, and take a room for it only where it has to be
 // decoded.
-ghost use Rattle.std.specs.Prelude.{◌≡◌};
+ghost use Rattle.std.specs.Prelude.{◌≡◌, ◌+◌, ◌*◌, ◌^◌, ◌<◌, get_or};
 ghost use Rattle.text_facts.specs.Strings.{equal, begins_with};
 ghost use Rattle.judge_draft.specs.Forms.{has_form};
 ghost use Rattle.judge_draft.specs.Drafts.{draft, role, parent, first, after, is, is_known, attribute, said, is_empty};
 
-use judge_kept::{attribute_held, row_number, text_held};
 use judge_paths::DocumentType;
 use xml_reader::Reader;
 use xml_values::Place;
@@ -36,63 +35,75 @@ pub enum Form {
     WithoutSpace,
 }
 
+// The number at place k of element n's notes, or 0 past their end.
+pub fn number(notes: &[u32], n: usize, k: usize) -> usize
+    requires { k < 4 }
+    ensures { (result ≡ get_or notes.now (4 * n + k) 0) × (result < 2 ^ 32) }
+{
+    if notes.len() <= n {
+        return 0;
+    }
+    let i = 4 * n + k;
+    if i < notes.len() {
+        return notes[i] as usize;
+    }
+    0
+}
+
 // The role of element n.
 pub fn role_at(document: &[u8], notes: &[u32], n: usize) -> u32
     ensures { result ≡ role (draft document.now notes.now) n }
 {
-    row_number(notes, n, 0) as u32
+    number(notes, n, 0) as u32
 }
 
 // Whether element n has this role.
 pub fn is_role(document: &[u8], notes: &[u32], n: usize, wanted: u32) -> bool
     ensures { result ≡ is (draft document.now notes.now) wanted n }
 {
-    row_number(notes, n, 0) == wanted as usize
+    number(notes, n, 0) == wanted as usize
 }
 
 // Whether element n is known.
 pub fn is_known(document: &[u8], notes: &[u32], n: usize) -> bool
     ensures { result ≡ is_known (draft document.now notes.now) n }
 {
-    1 < row_number(notes, n, 0)
+    1 < number(notes, n, 0)
 }
 
 // The number of element n's parent.
 pub fn parent(document: &[u8], notes: &[u32], n: usize) -> usize
     ensures { result ≡ parent (draft document.now notes.now) n }
 {
-    row_number(notes, n, 1)
+    number(notes, n, 1)
 }
 
 // The byte after element n.
 pub fn byte_after(document: &[u8], notes: &[u32], n: usize) -> usize
     ensures { result ≡ after (draft document.now notes.now) n }
 {
-    row_number(notes, n, 3)
+    number(notes, n, 3)
 }
 
 // The first byte of element n.
 pub fn first_byte(document: &[u8], notes: &[u32], n: usize) -> usize
     ensures { result ≡ first (draft document.now notes.now) n }
 {
-    row_number(notes, n, 2)
+    number(notes, n, 2)
 }
 
 pub fn attribute_is(document: &[u8], notes: &[u32], n: usize, name: &[u8], wanted: &[u8]) -> bool
     ensures { result ≡ equal (attribute (draft document.now notes.now) n name.now) wanted.now }
 {
-    let Place::At(a, e) = attribute_held(document, notes, n, name) else {
-        let first = row_number(notes, n, 2);
-        return xml_compare::attribute_is(document, first, name, wanted);
-    };
-    text_facts::same(&document[a..e], wanted)
+    let first = first_byte(document, notes, n);
+    xml_compare::attribute_is(document, first, name, wanted)
 }
 
 pub fn attribute_begins(document: &[u8], notes: &[u32], n: usize, name: &[u8], start: &[u8]) -> bool
     ensures { result ≡ begins_with start.now (attribute (draft document.now notes.now) n name.now) }
 {
-    let Place::At(a, e) = attribute_held(document, notes, n, name) else {
-        let first = row_number(notes, n, 2);
+    let first = first_byte(document, notes, n);
+    let Place::At(a, e) = xml_values::plain_attribute(document, first, name) else {
         let mut room = [0u8; Reader::VALUE];
         return text_facts::begins_with(
             xml_values::attribute(document, first, name, &mut room),
@@ -105,7 +116,8 @@ pub fn attribute_begins(document: &[u8], notes: &[u32], n: usize, name: &[u8], s
 pub fn attribute_is_empty(document: &[u8], notes: &[u32], n: usize, name: &[u8]) -> bool
     ensures { result ≡ is_empty (attribute (draft document.now notes.now) n name.now) }
 {
-    attribute_is(document, notes, n, name, b"")
+    let first = first_byte(document, notes, n);
+    xml_compare::attribute_is(document, first, name, b"")
 }
 
 // Whether a value has this form.
@@ -125,8 +137,8 @@ fn has_form(value: &[u8], form: Form) -> bool
 pub fn attribute_has(document: &[u8], notes: &[u32], n: usize, name: &[u8], form: Form) -> bool
     ensures { result ≡ has_form form (attribute (draft document.now notes.now) n name.now) }
 {
-    let Place::At(a, e) = attribute_held(document, notes, n, name) else {
-        let first = row_number(notes, n, 2);
+    let first = first_byte(document, notes, n);
+    let Place::At(a, e) = xml_values::plain_attribute(document, first, name) else {
         let mut room = [0u8; Reader::VALUE];
         return has_form(
             xml_values::attribute(document, first, name, &mut room),
@@ -139,8 +151,8 @@ pub fn attribute_has(document: &[u8], notes: &[u32], n: usize, name: &[u8], form
 pub fn text_is(document: &[u8], notes: &[u32], n: usize, wanted: &[u8]) -> bool
     ensures { result ≡ equal (said (draft document.now notes.now) n) wanted.now }
 {
-    let Place::At(a, e) = text_held(document, notes, n) else {
-        let first = row_number(notes, n, 2);
+    let first = first_byte(document, notes, n);
+    let Place::At(a, e) = xml_texts::plain_text(document, first) else {
         let mut room = [0u8; Reader::VALUE];
         return text_facts::same(xml_texts::text(document, first, &mut room), wanted);
     };
@@ -150,5 +162,10 @@ pub fn text_is(document: &[u8], notes: &[u32], n: usize, wanted: &[u8]) -> bool
 pub fn text_is_empty(document: &[u8], notes: &[u32], n: usize) -> bool
     ensures { result ≡ is_empty (said (draft document.now notes.now) n) }
 {
-    text_is(document, notes, n, b"")
+    let first = first_byte(document, notes, n);
+    let Place::At(a, e) = xml_texts::plain_text(document, first) else {
+        let mut room = [0u8; Reader::VALUE];
+        return xml_texts::text(document, first, &mut room).len() == 0;
+    };
+    text_facts::same(&document[a..e], b"")
 }

@@ -22,7 +22,7 @@ use Rattle.table_sets.specs.SetKeys.{keys_of}
 use Rattle.xml_values.specs.Attributes.{attribute_of}
 use Rattle.judge_paths.specs.declared.DocumentType.{DocumentType}
 use Rattle.judge_draft.specs.Drafts.{Draft, draft, first, attribute}
-use Rattle.judge_draft.proofs.Values.{attribute-read}
+use Rattle.judge_draft.proofs.Values.{attribute_read}
 use Rattle.judge_header.specs.Header.{request_code}
 use Rattle.judge_answers.specs.declared.Places.{Places}
 use Rattle.judge_answers.specs.Answers.{type_code, tables_at}
@@ -90,11 +90,11 @@ is_sized n s p r e f =
 -- ---- the keys
 module _ (s notes : List ℕ) (n f : ℕ) (e : f ≡ first (draft s notes) n) (v : List ℕ) (g : v ≡ attribute_of s f (text "root")) (u : List ℕ) (p : Places) where
   pub keys_filled : (c x : List ℕ) → Serves KeyElsewhere (keeps_row KeyElsewhere c v) u p.history p.nhistory x → KeysServed c (attribute (draft s notes) n (text "root")) u p x
-  keys_filled c x l = rw (← (attribute-read s notes n f e (text "root") v g)) l
+  keys_filled c x l = rw (← (attribute_read s notes n f e (text "root") v g)) l
 
   pub keys_told : (t : DocumentType) (k : Keys) → k ≡ keys_of request_code v u p.history p.nhistory → record { codes = p.codes; ncodes = p.ncodes; names = p.names; nnames = p.nnames; history = p.history; nhistory = p.nhistory; kind = t; set = n; first = k.first; several = k.several } ≡ told_at (draft s notes) u p t n
   unfolding told_at
-  keys_told t k h = rw (h, attribute-read s notes n f e (text "root") v g)
+  keys_told t k h = rw (h, attribute_read s notes n f e (text "root") v g)
 
 pub keys_of_type : (u t : DocumentType) → t ≡ u → (set f : List ℕ) (p : Places) (x : List ℕ) → KeysServed (type_code u) set f p x → KeysServed (type_code t) set f p x
 keys_of_type u t e set f p x l = rw e l

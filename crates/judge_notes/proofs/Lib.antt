@@ -1,4 +1,3 @@
 pub mod Noted
-pub mod Kept
 pub mod Below
 pub mod Decided

@@ -1,17 +1,20 @@
 -- The notes: how many they are, the number at a place, and what storing those of one element more makes of a run.
 -- Assumes nothing.
 use mathlib.Core.Path.{◌≡◌, refl, sym, ◌∙◌, ap}
+use mathlib.Core.Bool.{Bool, true, false}
 use mathlib.Core.List.{List, [], ◌∷◌, ◌++◌}
 use Prim.Native.Nat.{ℕ, zero, suc, ◌+◌, ◌-◌, ◌*◌, ◌/◌, ◌<◌, ◌≤◌}
 use native.Mathlib.Numerals.{add-one}
 use native.Mathlib.Nat.{zero-add}
 use native.Mathlib.Omega.{arith}
 use lib.ListN.{length, take, drop, get_or, set}
-use lib.Seq.{paste-suc, take_all, get_or-take, take_at, length-take-le}
+use lib.Dec.{leb}
+use borrow.Author.Tests.{le-leb, lt-leb}
+use lib.Seq.{paste-suc, take_all, take-append_seam, get_or-take, take_at, length-take-le}
 use Rattle.xml_steps.specs.Reading.{parent_of, first_of, after_of}
 use Rattle.judge_paths.specs.declared.DocumentType.{DocumentType}
 use Rattle.judge_paths.specs.Paths.{role_of}
-use Rattle.judge_notes.specs.Notes.{notes_from, notes_of}
+use Rattle.judge_notes.specs.Notes.{notes_from, notes_of, noted}
 
 module _ (s rows : List ℕ) (t : DocumentType) where
   length_from : (m k : ℕ) → length (notes_from s rows t k m) ≡ 4 * m
@@ -100,3 +103,17 @@ module _ (s rows : List ℕ) (t : DocumentType) where
     stored_all n g h i =
         let q : k ≡ length rows / 4 = omega arith in
         (rw q at e) ∙ rw (take_all (4 * (length rows / 4)) (notes_of s rows t) (omega (arith, notes_length)))
+
+  -- ---- in a run with room, or not
+  module _ (old new : List ℕ) where
+    pub noted_there : 4 * (length rows / 4) ≤ length old → new ≡ notes_of s rows t ++ drop (4 * (length rows / 4)) old → new ≡ noted s rows t old
+    unfolding noted
+    noted_there h e = e ∙ rw (le-leb (4 * (length rows / 4)) (length old) h)
+
+    pub not_noted : length old < 4 * (length rows / 4) → old ≡ noted s rows t old
+    unfolding noted
+    not_noted h = rw (lt-leb (4 * (length rows / 4)) (length old) h)
+
+    pub noted_front : 4 * (length rows / 4) ≤ length old → take (4 * (length rows / 4)) (noted s rows t old) ≡ notes_of s rows t
+    unfolding noted
+    noted_front h = rw (le-leb (4 * (length rows / 4)) (length old) h, ← notes_length) (take-append_seam (notes_of s rows t) (drop (length (notes_of s rows t)) old))

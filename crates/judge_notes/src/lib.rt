@@ -1,13 +1,10 @@
-// The notes of a document: the element table with the role of each element in place of its number, and behind it what is kept of each element. A role is asked of the parent's number by
+// The notes of a document: the element table with the role of each element in place of its number. A role is asked of the parent's number by
 // recursion, which remembers the roles that are noted already.
 ghost use Rattle.std.specs.Prelude.{◌≡◌, ◌++◌, ◌+◌, ◌*◌, ◌/◌, ◌^◌, ◌≤◌, ◌<◌, length, take, drop, get_or, set};
 ghost use Rattle.xml_steps.specs.Reading.{parent_of};
 ghost use Rattle.judge_paths.specs.Paths.{role_of};
-ghost use Rattle.std.proofs.lemmas.List.Edits.{sets};
-ghost use Rattle.judge_kept.specs.Kept.{note_width};
-ghost use Rattle.judge_notes.specs.Notes.{notes_of, kept_from, noted};
+ghost use Rattle.judge_notes.specs.Notes.{notes_of, noted};
 
-use judge_kept::{KEPT, NOTE};
 use judge_paths::{DocumentType, role};
 
 // The k-th number of element n's row.
@@ -122,27 +119,11 @@ fn fill_all(document: &[u8], elements: &[u32], kind: DocumentType, notes: &mut [
     }
 }
 
-// Stores what is kept of so many elements behind their notes.
-fn keep_all(document: &[u8], count: usize, notes: &mut [u32])
-    requires { note_width * count ≤ length notes.old }
-    ensures { notes.new ≡ sets notes.old (4 * count) (kept_from document.now (take (4 * count) notes.old) 0 count) }
-{
-    let mut k = 0;
-    while k < count {
-        let role = notes[4 * k];
-        let first = notes[4 * k + 2] as usize;
-        judge_kept::keep(document, first, role, notes, 4 * count + KEPT * k);
-        k += 1;
-    }
-}
-
-// Stores the notes of all elements and what is kept of them in the front of a run, if it has room for them.
+// Stores the notes of all elements in the front of a run, if it has room for them.
 pub fn fill(document: &[u8], elements: &[u32], kind: DocumentType, notes: &mut [u32])
     ensures { notes.new ≡ noted document.now elements.now kind notes.old }
 {
-    let count = elements.len() / 4;
-    if count <= notes.len() / NOTE {
+    if 4 * (elements.len() / 4) <= notes.len() {
         fill_all(document, elements, kind, notes);
-        keep_all(document, count, notes);
     }
 }

@@ -37,17 +37,17 @@ module _ (list : List ℕ) (n : ℕ) (room : List Finding) (at : ℕ) (e : fitti
   start : length (take at room) ≡ at
   start = length-take-le at room (omega (arith, leb-true (at + n) (length room) (and_right (leb n (length list / width)) (leb (at + n) (length room)) e)))
 
-  is_kept_lem : kept_in list n room at ≡ take at room ++ (first_records list n ++ drop (at + length (first_records list n)) room)
+  is_kept : kept_in list n room at ≡ take at room ++ (first_records list n ++ drop (at + length (first_records list n)) room)
   unfolding kept_in
-  is_kept_lem = rw e (append_assoc (take at room) (first_records list n) (drop (at + length (first_records list n)) room))
+  is_kept = rw e (append_assoc (take at room) (first_records list n) (drop (at + length (first_records list n)) room))
 
   -- what was there before stays, and the records stand behind it
   pub kept_before : take at (kept_in list n room at) ≡ take at room
-  kept_before = rw is_kept_lem (take_at (take at room) (first_records list n ++ drop (at + length (first_records list n)) room) at start)
+  kept_before = rw is_kept (take_at (take at room) (first_records list n ++ drop (at + length (first_records list n)) room) at start)
 
   pub kept_behind : take n (drop at (kept_in list n room at)) ≡ first_records list n
   kept_behind =
-      rw (is_kept_lem, drop_at (take at room) (first_records list n ++ drop (at + length (first_records list n)) room) at start)
+      rw (is_kept, drop_at (take at room) (first_records list n ++ drop (at + length (first_records list n)) room) at start)
       (take_at (first_records list n) (drop (at + length (first_records list n)) room) n long)
 
 -- the room keeps its length

@@ -5,11 +5,11 @@ use borrow.Author.Rules.{rules}
 use Rattle.judge_draft.proofs.byte_after.Statement.{statement}
 use Rattle.judge_draft.proofs.byte_after.Tie as tie
 
-row-number-requires : tie.Need-row-number-requires
-row-number-requires c κs = search rules
+number-requires : tie.Need-number-requires
+number-requires c κs = search rules
 
 returns : tie.Need-returns
 returns c = search note_after
 
 pub byte_after_spec : {M : Type 1} → statement M
-byte_after_spec = tie.close (tie.spec row-number-requires returns)
+byte_after_spec = tie.close (tie.spec number-requires returns)

@@ -5,11 +5,11 @@ use borrow.Author.Rules.{rules}
 use Rattle.judge_draft.proofs.first_byte.Statement.{statement}
 use Rattle.judge_draft.proofs.first_byte.Tie as tie
 
-row-number-requires : tie.Need-row-number-requires
-row-number-requires c κs = search rules
+number-requires : tie.Need-number-requires
+number-requires c κs = search rules
 
 returns : tie.Need-returns
 returns c = search note_first
 
 pub first_byte_spec : {M : Type 1} → statement M
-first_byte_spec = tie.close (tie.spec row-number-requires returns)
+first_byte_spec = tie.close (tie.spec number-requires returns)

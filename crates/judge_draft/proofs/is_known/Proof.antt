@@ -5,11 +5,11 @@ use borrow.Author.Rules.{rules}
 use Rattle.judge_draft.proofs.is_known.Statement.{statement}
 use Rattle.judge_draft.proofs.is_known.Tie as tie
 
-row-number-requires : tie.Need-row-number-requires
-row-number-requires c κs = search rules
+number-requires : tie.Need-number-requires
+number-requires c κs = search rules
 
 returns : tie.Need-returns
 returns c = search (known_is, rules)
 
 pub is_known_spec : {M : Type 1} → statement M
-is_known_spec = tie.close (tie.spec row-number-requires returns)
+is_known_spec = tie.close (tie.spec number-requires returns)

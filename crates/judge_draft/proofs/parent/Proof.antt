@@ -5,11 +5,11 @@ use borrow.Author.Rules.{rules}
 use Rattle.judge_draft.proofs.parent.Statement.{statement}
 use Rattle.judge_draft.proofs.parent.Tie as tie
 
-row-number-requires : tie.Need-row-number-requires
-row-number-requires c κs = search rules
+number-requires : tie.Need-number-requires
+number-requires c κs = search rules
 
 returns : tie.Need-returns
 returns c = search note_parent
 
 pub parent_spec : {M : Type 1} → statement M
-parent_spec = tie.close (tie.spec row-number-requires returns)
+parent_spec = tie.close (tie.spec number-requires returns)

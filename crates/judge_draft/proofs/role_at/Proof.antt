@@ -5,8 +5,8 @@ use borrow.Author.Rules.{rules}
 use Rattle.judge_draft.proofs.role_at.Statement.{statement}
 use Rattle.judge_draft.proofs.role_at.Tie as tie
 
-row-number-requires : tie.Need-row-number-requires
-row-number-requires c κs = search rules
+number-requires : tie.Need-number-requires
+number-requires c κs = search rules
 
 cast-result : tie.Need-overflow-cast-result
 cast-result c = search rules
@@ -15,4 +15,4 @@ returns : tie.Need-returns
 returns c = search (note_role, rules)
 
 pub role_at_spec : {M : Type 1} → statement M
-role_at_spec = tie.close (tie.spec row-number-requires cast-result returns)
+role_at_spec = tie.close (tie.spec number-requires cast-result returns)
