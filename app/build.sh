@@ -3,7 +3,7 @@
 #
 #   app/build.sh [ARCHIVE]
 #
-# ARCHIVE  the proved archive: if none is named, here or by the variable BENCHDOWEL_ARCHIVE, `rt staticlib program_exports` makes it where it is
+# ARCHIVE  the proved archive: if none is named, here or by the variable BENCHDOWEL_ARCHIVE, `rt lib` makes it in crates/program_exports where it is
 #          missing or older than its sources
 #
 # What is missing is installed from Debian's packages; the program's own dependencies are taken from there too. Everything is built
@@ -18,11 +18,11 @@ mkdir -p "$build"
 
 archive=${1:-${BENCHDOWEL_ARCHIVE:-}}
 if [ -z "$archive" ]; then
-    archive=$project/target/staticlib/libprogram_exports.a
-    if [ ! -f "$archive" ] || [ -n "$(find "$project/crates" "$project/crates.txt" -type f -newer "$archive" | head -n 1)" ]; then
+    archive=$project/crates/program_exports/out/libprogram_exports.a
+    if [ ! -f "$archive" ] || [ -n "$(find "$project/crates" "$project/crates.txt" -name out -prune -o -type f -newer "$archive" -print | head -n 1)" ]; then
         has rt || fail "the Rattle kit is needed: there is no command rt"
         echo "proving and making $archive, which takes some minutes" >&2
-        (cd "$project" && rt staticlib program_exports) >"$build/archive.log" 2>&1 || fail "the archive was not made: see $build/archive.log"
+        (cd "$project/crates/program_exports" && rt lib) >"$build/archive.log" 2>&1 || fail "the archive was not made: see $build/archive.log"
     fi
 fi
 [ -f "$archive" ] || fail "there is no archive $archive"

@@ -1,7 +1,7 @@
 /* Benchdowel for programs in C: the check, the merge and the value reader.
  *
- * `rt staticlib program_exports` proves them and writes the archive, target/staticlib/libprogram_exports.a, for x86-64 Linux. It needs nothing but
- * the C library.
+ * `rt lib` in crates/program_exports proves them and writes the archive, crates/program_exports/out/libprogram_exports.a, for x86-64 Linux. It needs
+ * nothing but the C library.
  *
  * Every function answers for all bytes and numbers. What it cannot see the caller owes it:
  *

@@ -5,7 +5,7 @@
 #   host/run.sh [CASES [SECONDS [ARCHIVE [VECTORS]]]]
 #
 # CASES    made-up cases to compare (1000000), for at most SECONDS (1800)
-# ARCHIVE  the product's archive: made by `rt staticlib program_exports` if none is named. The word `standin` puts the reference in its
+# ARCHIVE  the product's archive: made by `rt lib` in crates/program_exports if none is named. The word `standin` puts the reference in its
 #          place, which tries the harness alone
 # VECTORS  the folder of the vectors (crates/program_vectors/data)
 #
@@ -20,9 +20,9 @@ cases=${1:-1000000}
 seconds=${2:-1800}
 archive=${3:-}
 if [ -z "$archive" ]; then
-    archive=$project/target/staticlib/libprogram_exports.a
+    archive=$project/crates/program_exports/out/libprogram_exports.a
     echo "making $archive"
-    (cd "$project" && rt staticlib program_exports) >/dev/null || fail "rt staticlib program_exports did not make the archive"
+    (cd "$project/crates/program_exports" && rt lib) >/dev/null || fail "rt lib did not make the archive in crates/program_exports"
 fi
 [ "$archive" = standin ] || [ -f "$archive" ] || fail "there is no archive $archive"
 vectors=$(folder "${4:-$project/crates/program_vectors/data}") || fail "there is no folder $4"

@@ -16,7 +16,7 @@ use xml_reader::Reader;
 
 // Where the rows of each section of a tables file stand, and how many there are; the type and the setId whose keys in the history are indexed, where
 // its first row stands, and whether its rows have several keys.
-#[derive(Drop)]
+#[derive(Clone, Copy)]
 pub struct Places {
     pub codes: usize,
     pub ncodes: usize,

@@ -10,7 +10,7 @@ use judge_tests::{Test, is_passed};
 use text_scan::Found;
 
 // What is looked for below an element: the elements of a role, so many levels below it, that pass a test.
-#[derive(Drop)]
+#[derive(Clone, Copy)]
 pub struct Wanted {
     pub role: u32,
     pub levels: usize,

@@ -12,7 +12,7 @@ use xml_values::Place;
 
 // What a procedure demands of an element, from the document alone: nothing, that it is broken, a row of the code list or the register
 // that is there, or a row of the history that is not. It holds the numbers of the elements whose values the row is asked for.
-#[derive(Drop)]
+#[derive(Clone, Copy)]
 pub enum Demand {
     Nothing,
     Broken,
@@ -25,7 +25,7 @@ pub enum Demand {
 }
 
 // The forms that a procedure asks of a value.
-#[derive(Drop)]
+#[derive(Clone, Copy)]
 pub enum Form {
     Guid,
     Day,

@@ -1,6 +1,6 @@
 // The findings of a draft under the tables, and the laws of their list; what a check answers.
 // How many findings there are, or a refusal's number with what it returns.
-#[derive(Drop)]
+#[derive(Clone, Copy)]
 pub enum Answer {
     Findings(usize),
     Refused(u32, usize),

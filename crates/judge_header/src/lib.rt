@@ -10,7 +10,7 @@ use judge_paths::{DocumentType, role};
 use text_scan::Found;
 
 // The one id, code, effectiveTime, setId and versionNumber of the root.
-#[derive(Drop)]
+#[derive(Clone, Copy)]
 pub struct Header {
     pub id: Found,
     pub code: Found,
@@ -21,7 +21,7 @@ pub struct Header {
 
 // What is asked of the one child of the root: that its root is a GUID, that it is a code of one of the two types, that its value is a day or a
 // version number.
-#[derive(Drop)]
+#[derive(Clone, Copy)]
 pub enum Property {
     GuidRoot,
     OfType,

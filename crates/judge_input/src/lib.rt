@@ -1,5 +1,7 @@
 // What is handed in, before the document is read: refusals 1 to 4, or where the rows of the tables stand; and the scratch area as an
 // unrefused check leaves it.
+#![tactic(auto)]
+
 ghost use Rattle.std.specs.Prelude.{◌≡◌, ◌≤◌, length};
 ghost use Rattle.xml_reader.specs.Limits.{scratch_limit};
 ghost use Rattle.judge_input.specs.Input.{admitted};
@@ -9,7 +11,7 @@ use table_file::Accepted;
 use xml_reader::Reader;
 
 // Where the rows of each section start, and how many there are.
-#[derive(Drop)]
+#[derive(Clone, Copy)]
 pub struct Sections {
     pub codes: usize,
     pub ncodes: usize,
@@ -20,7 +22,7 @@ pub struct Sections {
 }
 
 // The number of a refusal with what it returns, or the sections of the tables.
-#[derive(Drop)]
+#[derive(Clone, Copy)]
 pub enum Input {
     Refused(u32, usize),
     Tables(Sections),

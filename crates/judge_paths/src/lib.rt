@@ -7,7 +7,7 @@ ghost use Rattle.judge_paths.specs.Words.{span_of, child_in};
 pub mod role;
 
 // The type of a document: 51725-0 is the registration, 51726-8 the labeler code request.
-#[derive(Drop)]
+#[derive(Clone, Copy)]
 pub enum DocumentType {
     Neither,
     Registration,

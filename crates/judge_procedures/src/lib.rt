@@ -11,7 +11,7 @@ use judge_header::Header;
 
 // What was found out before: the entity of level 3 that was met last, and whether it is that of an establishment; whether 3 is broken at the element
 // that is asked.
-#[derive(Drop)]
+#[derive(Clone, Copy)]
 pub struct Met {
     pub entity: usize,
     pub held: bool,

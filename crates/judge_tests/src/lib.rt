@@ -6,7 +6,7 @@ ghost use Rattle.judge_tests.specs.Passing.{passes};
 use judge_draft::{attribute_begins, attribute_is, text_is_empty};
 
 // What an element that is looked for passes: anything, the root of its id, the start of its telecom value, its operation code, no text.
-#[derive(Drop)]
+#[derive(Clone, Copy)]
 pub enum Test {
     Any,
     DunsRoot,

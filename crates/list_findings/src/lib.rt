@@ -1,4 +1,6 @@
 // A finding, the order of findings, the classes of procedures, and records in lent runs of 32-bit numbers.
+#![tactic(auto)]
+
 ghost use Rattle.std.specs.Prelude.{◌≡◌, ◌+◌, ◌-◌, ◌≤◌, leb, length};
 ghost use Rattle.list_findings.specs.Findings.{width, is_among, class_of, is_valid, precedes, record_at, stored};
 
@@ -14,7 +16,7 @@ const KEPT_BY_BOTH: [u32; 3] = [8, 18, 34];
 const KEPT_BY_EITHER: [u32; 4] = [6, 12, 21, 22];
 
 #[repr(C)]
-#[derive(Drop)]
+#[derive(Clone, Copy)]
 pub struct Finding {
     pub procedure: u32,
     pub first: u32,
@@ -22,7 +24,7 @@ pub struct Finding {
 }
 
 // What the merge asks of a procedure's findings.
-#[derive(Drop)]
+#[derive(Clone, Copy)]
 pub enum Class {
     DocumentOnly,
     Both,
@@ -30,7 +32,7 @@ pub enum Class {
 }
 
 // The merge's answer: how many findings, or a refusal's number with what it returns.
-#[derive(Drop)]
+#[derive(Clone, Copy)]
 pub enum Merged {
     Findings(usize),
     Refused(u32, usize),

@@ -15,7 +15,7 @@ use list_steps::{Stepped, Surveyed};
 use text_scan::Found;
 
 // The next record of a list, if there is one.
-#[derive(Drop)]
+#[derive(Clone, Copy)]
 pub enum Next {
     End,
     Record(Finding),

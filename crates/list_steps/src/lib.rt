@@ -1,5 +1,7 @@
 // The steps of the merge, on values: what is done with a finding of one list, or with one of each. `list_merge` walks the lists.
 // A place in a list is counted in numbers.
+#![tactic(auto)]
+
 ghost use Rattle.std.specs.Prelude.{◌≡◌, ◌+◌, ◌^◌, ◌<◌};
 ghost use Rattle.list_findings.specs.Findings.{width};
 ghost use Rattle.list_steps.specs.Step.{alone_of, pair_of};
@@ -8,7 +10,7 @@ use list_findings::{Class, Finding};
 
 // One step of the walk over two lists, with the places that come next: a finding is kept or left out. Or a fault's first byte; or
 // the end.
-#[derive(Drop)]
+#[derive(Clone, Copy)]
 pub enum Stepped {
     Over,
     Fault(usize),
@@ -17,7 +19,7 @@ pub enum Stepped {
 }
 
 // What the walk finds: how many findings are kept, or the first fault.
-#[derive(Drop)]
+#[derive(Clone, Copy)]
 pub enum Surveyed {
     Count(usize),
     Fault(usize),

@@ -1,5 +1,7 @@
 // The findings list: a lent run of 32-bit numbers that is filled from its front, one record at a time. A function that takes, makes,
 // returns or has a local of a `Listing` is proved by a walk of its MIR, by hand; `place`, which does the work, is covered.
+#![tactic(auto)]
+
 ghost use Rattle.std.specs.Prelude.{◌≡◌};
 ghost use Rattle.list_writer.specs.Listed.{list_after, count_after, appended};
 
@@ -14,7 +16,8 @@ pub struct Listing<'a> {
 
 // A lent list of which `count` records are filled.
 pub fn hold<'a>(list: &'a mut [u32], count: usize) -> Listing<'a>
-    ensures { (result.list ≡ list.entry) × (result.count ≡ count) }
+    ensures held { (result.list ≡ list.entry) × (result.count ≡ count) }
+    ensures same_reference { result.list.ghost_name ≡ list.entry.ghost_name }
 {
     Listing {
         list: list,
@@ -35,7 +38,8 @@ fn place(list: &mut [u32], count: usize, finding: Finding) -> usize
 
 // Appends a record if there is room. The struct is taken apart, and put together again with the new count.
 pub fn append<'a>(listing: Listing<'a>, finding: Finding) -> Listing<'a>
-    ensures { result ≡ appended listing.entry finding }
+    ensures filled { result ≡ appended listing.entry finding }
+    ensures same_reference { result.list.ghost_name ≡ listing.entry.list.ghost_name }
 {
     let count = listing.count;
     let next = place(&mut *listing.list, count, finding);
@@ -49,6 +53,6 @@ pub fn append<'a>(listing: Listing<'a>, finding: Finding) -> Listing<'a>
 pub fn append_at(list: &mut [u32], count: usize, finding: Finding) -> usize
     ensures { (result ≡ count_after list.old count) × (list.new ≡ list_after list.old count finding) }
 {
-    let listing = append(hold(list, count), finding);
-    listing.count
+    let Listing { list: _, count: next } = append(hold(list, count), finding);
+    next
 }

@@ -13,7 +13,7 @@ use Rattle.program_answer.specs.declared.Got.TheVariants.{Bytes, Failed}
 -- no more bytes are read than there is room for
 abbrev pub Within : Got → List ℕ → Type 0
 Within (Bytes n) room = n ≤ length room
-Within Failed room = Unit {0}
+Within (Failed e) room = Unit {0}
 
 -- the most bytes of a document, and of tables
 abbrev pub limit : ℕ

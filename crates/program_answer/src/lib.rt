@@ -1,9 +1,13 @@
 // The small program's answer: the check within its rooms, and the text that is printed of it.
+#![tactic(auto)]
+
 ghost use Rattle.std.specs.Prelude.{◌+◌, ◌*◌, ◌≤◌, length};
 ghost use Rattle.program_texts.specs.Texts.{Put};
 ghost use Rattle.program_answer.specs.Small.{Within, AnswerLeft, small_of, printed, Prints};
 
 use judge_findings::Answer;
+use std::io;
+use std::io::Read;
 use xml_reader::Reader;
 
 // The most bytes of a document, and of tables.
@@ -16,24 +20,23 @@ pub const FINDINGS: usize = 1024;
 
 pub const TEXT: usize = 65536;
 
-// What a reading came to: so many bytes, or a fault that errno tells.
-#[derive(Drop)]
+// What a reading came to: so many bytes, or a fault, which is told.
+#[derive(Clone, Copy)]
 pub enum Got {
     Bytes(usize),
-    Failed,
+    Failed(io::Error),
 }
 
 // Reads until the room is full or the input ends.
-pub fn read(file: i32, room: &mut [u8]) -> Got
+pub fn read<R: Read>(file: &mut R, room: &mut [u8]) -> Got
     ensures { Within result room.new }
 {
     let mut done = 0;
     while done < room.len() {
-        let got = libc::read(file, &mut room[done..]);
-        if got < 0 {
-            return Got::Failed;
-        }
-        let n = io::count(got, &room[done..]);
+        let n = match file.read(&mut room[done..]) {
+            Ok(n) => n,
+            Err(e) => return Got::Failed(e),
+        };
         if n == 0 {
             return Got::Bytes(done);
         }

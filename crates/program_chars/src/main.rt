@@ -1,6 +1,10 @@
 // Runs `first_bad` on every string of one byte, on every byte at each place of a hundred, on every code point, and on the forms at
 // each boundary, and counts.
+#![tactic(auto)]
+
 ghost use Rattle.std.specs.Prelude.{◌<◌, ◌≤◌};
+
+use std::io;
 
 // What the first bad byte of a string of the one byte b should be: 1, which is none, at tab, line feed, carriage return and 20 to 7F.
 fn wanted(b: u8) -> usize {
@@ -83,16 +87,12 @@ fn code_points() -> u64 {
     right
 }
 
-fn line(name: &[u8], right: u64, all: u64) {
-    io::write_all(1, name);
-    io::print_decimal(1, right);
-    io::write_all(1, b" of ");
-    io::print_decimal(1, all);
-    io::write_all(1, b" as they should be\n");
+fn line(rt: &impl Print, name: &str, right: u64, all: u64) -> io::Result<()> {
+    println!(rt; "{name}{right} of {all} as they should be")
 }
 
 // 7F, 80, 7FF, 800, D7FF, E000, FFFD, 10000, 10FFFF
-fn firsts_and_lasts() {
+fn firsts_and_lasts(rt: &impl Print) -> io::Result<()> {
     let right = at(b"\x7F", 1)
         + at(b"\xC2\x80", 2)
         + at(b"\xDF\xBF", 2)
@@ -102,30 +102,30 @@ fn firsts_and_lasts() {
         + at(b"\xEF\xBF\xBD", 3)
         + at(b"\xF0\x90\x80\x80", 4)
         + at(b"\xF4\x8F\xBF\xBF", 4);
-    line(b"firsts and lasts ", right, 9);
+    line(rt, "firsts and lasts ", right, 9)
 }
 
 // D800, DFFF, FFFE, FFFF, 110000
-fn no_characters() {
+fn no_characters(rt: &impl Print) -> io::Result<()> {
     let right = at(b"\xED\xA0\x80", 0)
         + at(b"\xED\xBF\xBF", 0)
         + at(b"\xEF\xBF\xBE", 0)
         + at(b"\xEF\xBF\xBF", 0)
         + at(b"\xF4\x90\x80\x80", 0);
-    line(b"no characters ", right, 5);
+    line(rt, "no characters ", right, 5)
 }
 
-fn overlong() {
+fn overlong(rt: &impl Print) -> io::Result<()> {
     let right = at(b"\xC0\x80", 0)
         + at(b"\xC1\xBF", 0)
         + at(b"\xE0\x80\x80", 0)
         + at(b"\xE0\x9F\xBF", 0)
         + at(b"\xF0\x80\x80\x80", 0)
         + at(b"\xF0\x8F\xBF\xBF", 0);
-    line(b"overlong ", right, 6);
+    line(rt, "overlong ", right, 6)
 }
 
-fn stray() {
+fn stray(rt: &impl Print) -> io::Result<()> {
     let right = at(b"\x80", 0)
         + at(b"a\xBF", 1)
         + at(b"\xC3\xA9\xA9", 2)
@@ -134,35 +134,35 @@ fn stray() {
         + at(b"\xE2\x82\x28", 0)
         + at(b"\xF0\x90\x8D\xC0", 0)
         + at(b"\xF8\x88\x80\x80\x80", 0);
-    line(b"stray ", right, 8);
+    line(rt, "stray ", right, 8)
 }
 
-fn cut_short() {
+fn cut_short(rt: &impl Print) -> io::Result<()> {
     let right = at(b"\xC3", 0)
         + at(b"a\xE2", 1)
         + at(b"a\xE2\x82", 1)
         + at(b"ab\xF0", 2)
         + at(b"ab\xF0\x90", 2)
         + at(b"ab\xF0\x90\x8D", 2);
-    line(b"cut short ", right, 6);
+    line(rt, "cut short ", right, 6)
 }
 
-fn byte_order_mark() {
+fn byte_order_mark(rt: &impl Print) -> io::Result<()> {
     let right = at(b"\xEF\xBB\xBF", 0)
         + at(b"\xEF\xBB\xBF<a/>", 0)
         + at(b"a\xEF\xBB\xBF", 4)
         + at(b"\xEF\xBB\xBE", 3);
-    line(b"byte order mark ", right, 4);
+    line(rt, "byte order mark ", right, 4)
 }
 
-fn main() {
-    line(b"one-byte ", one_byte(), 256);
-    line(b"one byte among a hundred ", each_place(), 25600);
-    line(b"code points that are good: ", code_points(), 1112032);
-    firsts_and_lasts();
-    no_characters();
-    overlong();
-    stray();
-    cut_short();
-    byte_order_mark();
+fn main(rt: HostRuntime) -> io::Result<()> {
+    line(&rt, "one-byte ", one_byte(), 256)?;
+    line(&rt, "one byte among a hundred ", each_place(), 25600)?;
+    line(&rt, "code points that are good: ", code_points(), 1112032)?;
+    firsts_and_lasts(&rt)?;
+    no_characters(&rt)?;
+    overlong(&rt)?;
+    stray(&rt)?;
+    cut_short(&rt)?;
+    byte_order_mark(&rt)
 }

@@ -11,7 +11,7 @@ use xml_values::View;
 
 // A refusal's number with what it returns; or 0 with how many findings there are.
 #[repr(C)]
-#[derive(Drop)]
+#[derive(Clone, Copy)]
 pub struct Numbers {
     pub refusal: u32,
     pub value: usize,
@@ -19,7 +19,7 @@ pub struct Numbers {
 
 // The bytes from `first` to `after`, of the document where `in_scratch` is 0, and of the scratch area where it is 1.
 #[repr(C)]
-#[derive(Drop)]
+#[derive(Clone, Copy)]
 pub struct Part {
     pub in_scratch: u32,
     pub first: usize,

@@ -1,8 +1,26 @@
 // Runs the facts on the lines of its standard input, each a fact's name and one or two values parted by tabs, and writes each line
 // with the answer behind it: 1 for yes, 0 for no, or the version number.
-ghost use Rattle.std.specs.Prelude.{◌≡◌, ◌+◌, ◌≤◌, min, length};
+#![tactic(auto)]
 
-use libc::{STDIN_FILENO, STDOUT_FILENO};
+ghost use Rattle.std.specs.Prelude.{◌≡◌, ◌+◌, ◌≤◌, min, length, IfOk};
+
+use std::io;
+use std::io::Read;
+
+// Reads until the room is full or the input ends: how many bytes.
+fn read_full(input: &mut impl Read, room: &mut [u8]) -> io::Result<usize>
+    ensures { IfOk result (λ n. n ≤ length room.new) }
+{
+    let mut done = 0;
+    while done < room.len() {
+        let n = input.read(&mut room[done..])?;
+        if n == 0 {
+            return Ok(done);
+        }
+        done += n;
+    }
+    Ok(done)
+}
 
 // The place of the first byte b from `at` on, or the length.
 fn end_of(s: &[u8], at: usize, b: u8) -> usize
@@ -59,29 +77,28 @@ fn judge(fact: &[u8], a: &[u8], b: &[u8]) -> u64 {
     number(text_facts::begins_with(a, b))
 }
 
-fn judge_line(line: &[u8]) {
+fn judge_line(rt: &impl Print, line: &[u8]) -> io::Result<()> {
     let k = end_of(line, 0, b'\t');
     let a = behind(line, k);
     let m = end_of(line, a, b'\t');
     let b = behind(line, m);
     let answer = judge(&line[0..k], &line[a..m], &line[b..]);
-    io::write_all(STDOUT_FILENO, line);
-    io::write_all(STDOUT_FILENO, b"\t");
-    io::print_decimal(STDOUT_FILENO, answer);
-    io::write_all(STDOUT_FILENO, b"\n");
+    rt.write_all(line)?;
+    println!(rt; "\t{answer}")
 }
 
-fn judge_all(s: &[u8]) {
+fn judge_all(rt: &impl Print, s: &[u8]) -> io::Result<()> {
     let mut i = 0;
     while i < s.len() {
         let e = end_of(s, i, b'\n');
-        judge_line(&s[i..e]);
+        judge_line(rt, &s[i..e])?;
         i = behind(s, e);
     }
+    Ok(())
 }
 
-fn main() {
-    let mut space = io::large_buffer();
-    let n = io::read_full(STDIN_FILENO, &mut space);
-    judge_all(&space[..n]);
+fn main(rt: HostRuntime) -> io::Result<()> {
+    let mut space = [0u8; 65536];
+    let n = read_full(&mut rt.stdin(), &mut space)?;
+    judge_all(&rt, &space[..n])
 }

@@ -1,9 +1,12 @@
 // Reads blocks of two lists and a room from its standard input, merges each, and writes the answers in the printed form.
-ghost use Rattle.std.specs.Prelude.{◌≡◌, ◌+◌, ◌*◌, ◌≤◌, min, length};
+#![tactic(auto)]
+
+ghost use Rattle.std.specs.Prelude.{◌≡◌, ◌+◌, ◌*◌, ◌≤◌, min, length, IfOk};
 ghost use Rattle.list_findings.specs.Findings.{width};
 
-use libc::{STDIN_FILENO, STDOUT_FILENO};
 use list_findings::{Finding, Merged};
+use std::io;
+use std::io::Read;
 
 // The records of a list, at most, and its numbers; the numbers of a room, of 64 records.
 const RECORDS: usize = 16;
@@ -14,6 +17,21 @@ const ROOM: usize = 64 * list_findings::WIDTH;
 
 // The bytes of what is printed of a room: a number takes 21 at most.
 const TEXT: usize = 64 + 21 * ROOM;
+
+// Reads until the room is full or the input ends: how many bytes.
+fn read_full(input: &mut impl Read, room: &mut [u8]) -> io::Result<usize>
+    ensures { IfOk result (λ n. n ≤ length room.new) }
+{
+    let mut done = 0;
+    while done < room.len() {
+        let n = input.read(&mut room[done..])?;
+        if n == 0 {
+            return Ok(done);
+        }
+        done += n;
+    }
+    Ok(done)
+}
 
 // The place of the first byte b from `at` on, or the length.
 fn end_of(s: &[u8], at: usize, b: u8) -> usize
@@ -78,18 +96,18 @@ fn numbers(line: &[u8], at: usize, list: &mut [u32]) -> usize
 }
 
 // Prints a list of so many findings.
-fn print_list(list: &[u32], n: usize, text: &mut [u8])
+fn print_list(rt: &impl Print, list: &[u32], n: usize, text: &mut [u8]) -> io::Result<()>
     requires { 64 + 21 * length list.now ≤ length text.old }
 {
     let k = program_texts::put_list(text, list, n);
-    io::write_all(STDOUT_FILENO, &text[..k]);
+    rt.write_all(&text[..k])
 }
 
-fn print_refusal(number: u32, place: usize, text: &mut [u8])
+fn print_refusal(rt: &impl Print, number: u32, place: usize, text: &mut [u8]) -> io::Result<()>
     requires { 64 ≤ length text.old }
 {
     let k = program_texts::put_refusal(text, number, place);
-    io::write_all(STDOUT_FILENO, &text[..k]);
+    rt.write_all(&text[..k])
 }
 
 // The number at a place of a list, and 0 behind its end.
@@ -140,7 +158,7 @@ fn merge_records(
 }
 
 // Merges two lists into a third, and prints the answer.
-fn merge_block(a: &[u32], b: &[u32], out: &mut [u32])
+fn merge_block(rt: &impl Print, a: &[u32], b: &[u32], out: &mut [u32]) -> io::Result<()>
     requires { (length a.now ≤ 16 * width) × (length b.now ≤ 16 * width) × (length out.old ≤ 64 * width) }
 {
     let n = count_of(a.len());
@@ -148,8 +166,8 @@ fn merge_block(a: &[u32], b: &[u32], out: &mut [u32])
     let answer = merge_records(records(a), n, records(b), m, out);
     let mut text = [0u8; TEXT];
     match answer {
-        Merged::Findings(count) => print_list(out, count, &mut text),
-        Merged::Refused(number, place) => print_refusal(number, place, &mut text),
+        Merged::Findings(count) => print_list(rt, out, count, &mut text),
+        Merged::Refused(number, place) => print_refusal(rt, number, place, &mut text),
     }
 }
 
@@ -164,7 +182,7 @@ fn room_for(n: u32) -> usize
 }
 
 // The block whose first line starts at i: two lists and a room, a line each.
-fn merge_at(s: &[u8], i: usize)
+fn merge_at(rt: &impl Print, s: &[u8], i: usize) -> io::Result<()>
     requires { i ≤ length s.now }
 {
     let mut a = [0u32; LIST];
@@ -180,7 +198,7 @@ fn merge_at(s: &[u8], i: usize)
     let g = end_of(s, k, b'\n');
     numbers(&s[k..g], 5, &mut room);
     let r = room_for(room[0]);
-    merge_block(&a[..n], &b[..m], &mut out[..r]);
+    merge_block(rt, &a[..n], &b[..m], &mut out[..r])
 }
 
 // Whether a block starts at i.
@@ -188,18 +206,19 @@ fn starts(s: &[u8], i: usize) -> bool {
     text_scan::text_at(s, i, b"a ")
 }
 
-fn merge_all(s: &[u8]) {
+fn merge_all(rt: &impl Print, s: &[u8]) -> io::Result<()> {
     let mut i = 0;
     while i < s.len() {
         if starts(s, i) {
-            merge_at(s, i);
+            merge_at(rt, s, i)?;
         }
         i = behind(s, end_of(s, i, b'\n'));
     }
+    Ok(())
 }
 
-fn main() {
-    let mut space = io::large_buffer();
-    let n = io::read_full(STDIN_FILENO, &mut space);
-    merge_all(&space[..n]);
+fn main(rt: HostRuntime) -> io::Result<()> {
+    let mut space = [0u8; 65536];
+    let n = read_full(&mut rt.stdin(), &mut space)?;
+    merge_all(&rt, &space[..n])
 }

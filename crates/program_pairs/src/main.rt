@@ -1,33 +1,36 @@
 // Checks documents under two tables files each, merges the two lists, and prints the answer, which is that of the check under the joined file.
-ghost use Rattle.std.specs.Prelude.{◌+◌, ◌*◌, ◌≤◌, length};
+#![tactic(auto)]
+
+ghost use Rattle.std.specs.Prelude.{◌+◌, ◌*◌, ◌≤◌, length, IfOk};
 
 use judge_findings::Answer;
-use libc::STDOUT_FILENO;
 use list_findings::{Finding, WIDTH};
 use program_answer::Got;
+use std::rt::Files;
+use std::{fs, io};
 use xml_reader::Reader;
 
 // Prints a list of so many findings.
-fn print_list(list: &[u32], n: usize, out: &mut [u8])
+fn print_list(rt: &impl Print, list: &[u32], n: usize, out: &mut [u8]) -> io::Result<()>
     requires { 64 + 21 * length list.now ≤ length out.old }
 {
     let k = program_texts::put_list(out, list, n);
-    io::write_all(STDOUT_FILENO, &out[..k]);
+    rt.write_all(&out[..k])
 }
 
-fn print_refusal(number: u32, place: usize, out: &mut [u8])
+fn print_refusal(rt: &impl Print, number: u32, place: usize, out: &mut [u8]) -> io::Result<()>
     requires { 64 ≤ length out.old }
 {
     let k = program_texts::put_refusal(out, number, place);
-    io::write_all(STDOUT_FILENO, &out[..k]);
+    rt.write_all(&out[..k])
 }
 
-fn print(answer: Answer, list: &[u32], out: &mut [u8])
+fn print(rt: &impl Print, answer: Answer, list: &[u32], out: &mut [u8]) -> io::Result<()>
     requires { 64 + 21 * length list.now ≤ length out.old }
 {
     match answer {
-        Answer::Findings(n) => print_list(list, n, out),
-        Answer::Refused(number, place) => print_refusal(number, place, out),
+        Answer::Findings(n) => print_list(rt, list, n, out),
+        Answer::Refused(number, place) => print_refusal(rt, number, place, out),
     }
 }
 
@@ -65,7 +68,7 @@ fn check_both(
 }
 
 // Checks and prints, with room for 256 findings in each list.
-fn judge(document: &[u8], one: &[u8], other: &[u8]) {
+fn judge(rt: &impl Print, document: &[u8], one: &[u8], other: &[u8]) -> io::Result<()> {
     let mut scratch = [0u8; Reader::SCRATCH];
     let mut elements = [0u32; 4 * program_answer::ELEMENTS];
     let mut list = [0u32; WIDTH * 256];
@@ -80,45 +83,52 @@ fn judge(document: &[u8], one: &[u8], other: &[u8]) {
         &mut list,
         &mut merged,
     );
-    print(answer, &merged, &mut out);
+    print(rt, answer, &merged, &mut out)
 }
 
 // How many bytes of a file were read into the room; none where it cannot be read, which is told.
-fn read(name: &[u8], room: &mut [u8]) -> usize
-    ensures { result ≤ length room.new }
+fn read(rt: &(impl Files + Eprint), name: &str, room: &mut [u8]) -> io::Result<usize>
+    ensures { IfOk result (λ n. n ≤ length room.new) }
 {
-    let file = os::open_read(name);
-    if file < 0 {
-        os::fail(b"pairs: cannot open a file");
-        return 0;
-    }
-    let got = program_answer::read(file, room);
-    let Got::Bytes(n) = got else {
-        os::fail(b"pairs: cannot read a file");
-        return 0;
+    let mut file = match fs::open(rt, name) {
+        Ok(file) => file,
+        Err(e) => {
+            eprintln!(rt; "pairs: cannot open a file: {e}")?;
+            return Ok(0);
+        }
     };
-    libc::close(file);
-    n
+    match program_answer::read(&mut file, room) {
+        Got::Bytes(n) => Ok(n),
+        Got::Failed(e) => {
+            eprintln!(rt; "pairs: cannot read a file: {e}")?;
+            Ok(0)
+        }
+    }
 }
 
 // A document and two tables files of at most 8,192 bytes each.
-fn pair(document: &[u8], one: &[u8], other: &[u8]) {
+fn pair(
+    rt: &(impl Files + Print + Eprint),
+    document: &str,
+    one: &str,
+    other: &str,
+) -> io::Result<()> {
     let mut a = [0u8; 8192];
     let mut b = [0u8; 8192];
     let mut c = [0u8; 8192];
-    let n = read(document, &mut a);
-    let m = read(one, &mut b);
-    let k = read(other, &mut c);
-    judge(&a[..n], &b[..m], &c[..k]);
+    let n = read(rt, document, &mut a)?;
+    let m = read(rt, one, &mut b)?;
+    let k = read(rt, other, &mut c)?;
+    judge(rt, &a[..n], &b[..m], &c[..k])
 }
 
-fn main() {
-    pair(b"request.xml", b"request.one", b"request.other");
-    pair(b"document.xml", b"document.one", b"document.other");
-    pair(b"version.xml", b"version.one", b"version.other");
-    pair(b"key.xml", b"key.one", b"key.other");
-    pair(b"other.xml", b"other.one", b"other.other");
-    pair(b"usa.xml", b"usa.one", b"usa.other");
-    pair(b"irl.xml", b"irl.one", b"irl.other");
-    pair(b"none.xml", b"none.one", b"none.other");
+fn main(rt: HostRuntime) -> io::Result<()> {
+    pair(&rt, "request.xml", "request.one", "request.other")?;
+    pair(&rt, "document.xml", "document.one", "document.other")?;
+    pair(&rt, "version.xml", "version.one", "version.other")?;
+    pair(&rt, "key.xml", "key.one", "key.other")?;
+    pair(&rt, "other.xml", "other.one", "other.other")?;
+    pair(&rt, "usa.xml", "usa.one", "usa.other")?;
+    pair(&rt, "irl.xml", "irl.one", "irl.other")?;
+    pair(&rt, "none.xml", "none.one", "none.other")
 }

@@ -7,7 +7,7 @@ use Prim.Native.Nat.{ℕ, zero, suc, ◌+◌, ◌-◌, ◌*◌, ◌/◌, ◌%◌
 use native.Mathlib.Omega.{arith}
 use borrow.Author.Tests.{lt-ltb, le-ltb, leb-true, leb-false}
 use lib.Dec.{leb, ltb}
-use Rattle.io.specs.Digits.{hex_digit_ascii, last_digits, IsDigitCount}
+use Rattle.program_texts.specs.Digits.{last_digits, IsDigitCount}
 use Rattle.table_join.specs.Written.{decimal, digit}
 use Rattle.table_join.specs.Written as W
 
@@ -24,7 +24,7 @@ grows a (suc d) =
     rw e (omega (arith, grows a d))
 
 -- a number of 64 bits has 20 digits at most
-pub twenty : (n k : ℕ) → n < 2 ^ 64 → IsDigitCount 10 1 n k → k ≤ 20
+pub twenty : (n k : ℕ) → n < 2 ^ 64 → IsDigitCount n k → k ≤ 20
 twenty n k h (a, b, c) = go (leb k 20) refl
   where
     go : (t : Bool) → leb k 20 ≡ t → k ≤ 20
@@ -44,13 +44,12 @@ more : (f n : ℕ) → 10 ≤ n → W.digits (suc f) n ≡ W.digits f (n / 10) +
 unfolding W.digits
 more f n h = rw (le-ltb n 10 h)
 
-last : (n : ℕ) → hex_digit_ascii (n % 10) ∷ [] ≡ digit (n % 10)
+last : (n : ℕ) → (48 + n % 10) ∷ [] ≡ digit (n % 10)
 last n =
-    let h : n % 10 < 10 = omega arith in
     let e : 48 + n % 10 ≡ n % 10 + 48 = omega arith in
-    rw (lt-ltb (n % 10) 10 h, e)
+    rw e
 
-same : (k f n : ℕ) → n ≤ f → n < 10 ^ suc k → (0 < k → 10 ^ k ≤ n) → last_digits 10 (suc k) n ≡ W.digits f n
+same : (k f n : ℕ) → n ≤ f → n < 10 ^ suc k → (0 < k → 10 ^ k ≤ n) → last_digits (suc k) n ≡ W.digits f n
 same zero f n h g l =
     let q : n < 10 = omega arith in
     let e : n % 10 ≡ n = omega arith in
@@ -59,10 +58,10 @@ same (suc k) zero n h g l = absurd (omega (arith, l (omega arith), power (suc k)
 same (suc k) (suc f) n h g l =
     let q : 10 * 10 ^ k ≤ n = omega (arith, l (omega arith)) in
     let b : 10 ≤ n = omega (arith, q, power k) in
-    let e : last_digits 10 (suc k) (n / 10) ≡ W.digits f (n / 10) = same k f (n / 10) (omega arith) (omega (arith, g)) (λ p. omega (arith, q)) in
+    let e : last_digits (suc k) (n / 10) ≡ W.digits f (n / 10) = same k f (n / 10) (omega arith) (omega (arith, g)) (λ p. omega (arith, q)) in
     rw (more f n b, ← e, ← last n)
 
-pub decimal_of_lem : (n k : ℕ) → IsDigitCount 10 1 n k → last_digits 10 k n ≡ decimal n
+pub decimal_of_lem : (n k : ℕ) → IsDigitCount n k → last_digits k n ≡ decimal n
 decimal_of_lem n zero (a, b, c) = absurd (omega (arith, a))
 decimal_of_lem n (suc k) (a, b, c) =
     let e : suc k - 1 ≡ k = omega arith in

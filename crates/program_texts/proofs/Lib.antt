@@ -1,3 +1,4 @@
+pub mod Powers
 pub mod Puts
 pub mod Decimal
 pub mod Decided

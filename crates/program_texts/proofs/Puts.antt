@@ -14,7 +14,7 @@ use lib.Dec.{leb}
 use Rattle.list_findings.specs.declared.Finding.{Finding}
 use Rattle.list_findings.specs.Findings.{width, record_at}
 use Rattle.list_findings.proofs.Records.{there}
-use Rattle.io.specs.Digits.{last_digits, IsDigitCount}
+use Rattle.program_texts.specs.Digits.{last_digits, IsDigitCount}
 use Rattle.table_join.specs.Written.{decimal}
 use Rattle.program_texts.proofs.Decimal.{twenty, decimal_of_lem}
 use Rattle.program_texts.specs.Texts.{Put, finding_line, finding_lines, count_text, refusal_text}
@@ -59,7 +59,7 @@ put_both a b c s t i j k p q =
     }
 
 -- the text of a number: its digits, at most 20, and then a text
-module _ (n k : ℕ) (d : List ℕ) (s : n < 2 ^ 64) (f : IsDigitCount 10 1 n k) (l : k ≡ length (take k d)) where
+module _ (n k : ℕ) (d : List ℕ) (s : n < 2 ^ 64) (f : IsDigitCount n k) (l : k ≡ length (take k d)) where
   pub digits_room : (at e m : ℕ) → at + 20 + e ≤ m → at + length (take k d) ≤ m
   digits_room at e m r = omega (arith, twenty n k s f, l, r)
 
@@ -68,7 +68,7 @@ module _ (n k : ℕ) (d : List ℕ) (s : n < 2 ^ 64) (f : IsDigitCount 10 1 n k)
     end_room e r = omega (arith, twenty n k s f, l, r, p.ends, p.long)
 
     module _ (e c : List ℕ) (r : ℕ) (q : Put b j e r c) where
-      pub number_put : take k d ≡ last_digits 10 k n → Put a i (decimal n ++ e) r c
+      pub number_put : take k d ≡ last_digits k n → Put a i (decimal n ++ e) r c
       number_put t =
           let x : take k d ≡ decimal n = t ∙ decimal_of_lem n k f in
           subst (λ (u : List ℕ). Put a i (u ++ e) r c) x (put_both a b c (take k d) e i j r p q)

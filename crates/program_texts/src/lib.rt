@@ -1,10 +1,15 @@
 // Text in a lent room: each function puts some behind the first bytes, and answers where it ends.
+#![tactic(auto)]
+
+mod number;
+
 ghost use Rattle.std.specs.Prelude.{◌+◌, ◌*◌, ◌≤◌, length, ◌++◌};
 ghost use Rattle.list_findings.specs.Findings.{width};
 ghost use Rattle.table_join.specs.Written.{decimal};
 ghost use Rattle.program_texts.specs.Texts.{Put, finding_line, finding_lines, count_text, refusal_text};
 
 use list_findings::Finding;
+use number::put_digits;
 
 // Puts a text.
 pub fn put(out: &mut [u8], at: usize, text: &[u8]) -> usize
@@ -25,7 +30,7 @@ pub fn put_number(out: &mut [u8], at: usize, n: u64, end: &[u8]) -> usize
     ensures { Put out.old at (decimal n ++ end.now) result out.new × (result ≤ at + 20 + length end.now) }
 {
     let mut digits = [0u8; 20];
-    let k = io::decimal(n, &mut digits);
+    let k = put_digits(n, &mut digits);
     let next = put(out, at, &digits[..k]);
     put(out, next, end)
 }

@@ -1,5 +1,7 @@
 // Which of two positions of a byte string comes first: by the names that start there, or by fields of the rows that start there. No comparison reads
 // further than the first difference.
+#![tactic(auto)]
+
 ghost use Rattle.std.specs.Prelude.{◌≡◌};
 ghost use Rattle.xml_names.specs.Names.{name_at, is_name_start, is_name_char};
 ghost use Rattle.sort_compare.specs.Order.{order};
@@ -11,7 +13,7 @@ mod fields;
 pub use fields::{compare_value, next_field, rest, skip};
 
 // Which of two comes first.
-#[derive(Drop)]
+#[derive(Clone, Copy)]
 pub enum Order {
     Less,
     Same,
@@ -20,7 +22,7 @@ pub enum Order {
 
 // By what positions are ordered: the name that starts there; code, code system and display name, ASCII case ignored in the last; DUNS number and name;
 // one field, as the key of a history's row.
-#[derive(Drop)]
+#[derive(Clone, Copy)]
 pub enum By {
     Name,
     Code,

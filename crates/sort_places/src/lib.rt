@@ -1,5 +1,7 @@
 // Positions of a byte string, sorted by what starts there and, where that is the same, by themselves: by halves, with room for half of them, in time
 // that grows with their bytes and little more.
+#![tactic(auto)]
+
 ghost use Rattle.std.specs.Prelude.{◌≡◌, true, ◌++◌, ◌*◌, ◌<◌, ◌≤◌, length, take, drop};
 ghost use Rattle.sort_compare.specs.Order.{order, in_order};
 ghost use Rattle.sort_compare.specs.Keys.{key_at};

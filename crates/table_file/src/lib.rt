@@ -1,4 +1,6 @@
 // The tables file: whether it keeps the rules, and where the rows of its three sections stand.
+#![tactic(auto)]
+
 ghost use Rattle.std.specs.Prelude.{◌≡◌};
 ghost use Rattle.table_lines.specs.Lines.{field_count};
 ghost use Rattle.table_file.specs.Accepted.{is_row, count_of, rows_end, section_at, section_refused, accepted};
@@ -6,7 +8,7 @@ ghost use Rattle.table_file.specs.Accepted.{is_row, count_of, rows_end, section_
 use xml_reader::Reader;
 
 // The three sections.
-#[derive(Drop)]
+#[derive(Clone, Copy)]
 pub enum Kind {
     CodeList,
     Register,
@@ -14,21 +16,21 @@ pub enum Kind {
 }
 
 // What a count line says.
-#[derive(Drop)]
+#[derive(Clone, Copy)]
 pub enum Counted {
     Rows(usize),
     Bad,
 }
 
 // The place after the rows of a section, or that of refusal 4.
-#[derive(Drop)]
+#[derive(Clone, Copy)]
 pub enum Ended {
     After(usize),
     Refused(usize),
 }
 
 // A section: the place of its first row, the count of its rows, and the place after them; or the place of refusal 4.
-#[derive(Drop)]
+#[derive(Clone, Copy)]
 pub enum Section {
     Rows {
         first: usize,
@@ -39,7 +41,7 @@ pub enum Section {
 }
 
 // The place and the count of each section's rows, or the place of refusal 4.
-#[derive(Drop)]
+#[derive(Clone, Copy)]
 pub enum Accepted {
     Tables {
         codes: usize,

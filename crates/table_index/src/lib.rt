@@ -1,5 +1,7 @@
 // The rows of a section in order, in a lent run of numbers: first the number of its rows, then for each the place where what it is ordered by
 // starts. `table_search` finds by halves whether some row is what is asked for.
+#![tactic(auto)]
+
 ghost use Rattle.std.specs.Prelude.{◌≡◌, ◌++◌, ◌<◌, ◌≤◌, ◌^◌, length, drop};
 ghost use Rattle.xml_reader.specs.Limits.{rows_limit};
 ghost use Rattle.table_lines.specs.Lines.{fields_of};
@@ -10,7 +12,7 @@ ghost use Rattle.table_index.specs.Indexed.{by_of, keeps_row, key_place, places_
 use sort_compare::{By, skip};
 
 // The questions whose rows are indexed.
-#[derive(Drop)]
+#[derive(Clone, Copy)]
 pub enum Lookup {
     Code,
     Name,

@@ -1,4 +1,6 @@
 // The lines of the tables file, and the fields of a line, as parts of its bytes.
+#![tactic(auto)]
+
 ghost use Rattle.std.specs.Prelude.{◌≡◌, ◌+◌, ◌≤◌, ltb, length};
 ghost use Rattle.text_scan.specs.Lists.{run_from};
 ghost use Rattle.table_lines.specs.Lines.{other, line_end, line_at, field, fields_of, field_count};
@@ -6,7 +8,7 @@ ghost use Rattle.table_lines.specs.Starts.{field_start};
 ghost use Rattle.table_lines.specs.Blocks.{throughout, plain_end};
 
 // A line: the place of its line feed or the length, and the number of its fields, or 0 where one is empty or has a carriage return.
-#[derive(Drop)]
+#[derive(Clone, Copy)]
 pub struct Line {
     pub end: usize,
     pub fields: usize,

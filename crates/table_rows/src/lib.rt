@@ -1,5 +1,7 @@
 // The rows of a section, as parts of the tables file: whether some row is what a procedure asks for. A section is the place of its first
 // row and the count of its rows.
+#![tactic(auto)]
+
 ghost use Rattle.std.specs.Prelude.{◌≡◌, drop};
 ghost use Rattle.text_facts.specs.Strings.{equal, equal_in_any_case};
 ghost use Rattle.text_numbers.specs.Numbers.{version_of};
@@ -7,7 +9,7 @@ ghost use Rattle.table_lines.specs.Lines.{other, front, field, fields_of, rows_a
 ghost use Rattle.table_rows.specs.Rows.{some_row, is_asked, is_code, is_registered, is_document, is_version, is_key_elsewhere, is_other_key};
 
 // What can be asked of a row.
-#[derive(Drop)]
+#[derive(Clone, Copy)]
 pub enum Question {
     Code,
     Name,

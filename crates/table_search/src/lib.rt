@@ -1,5 +1,7 @@
 // Whether some row of an indexed section is what is asked for, found by halving its run. The answer is that of `table_rows::some_row`, which walks all
 // rows.
+#![tactic(auto)]
+
 ghost use Rattle.std.specs.Prelude.{◌≡◌, true, [], ◌∷◌, eqb, ◌<◌, length, drop, get_or};
 ghost use Rattle.text_scan.specs.Lists.{some};
 ghost use Rattle.table_lines.specs.Lines.{rows_at};

@@ -1,11 +1,13 @@
 // Procedure 22, asked many times for one type and set id: what the rows have to say of their keys is found once.
+#![tactic(auto)]
+
 ghost use Rattle.std.specs.Prelude.{◌≡◌};
 ghost use Rattle.table_lines.specs.Lines.{fields_of, rows_at};
 ghost use Rattle.table_rows.specs.Rows.{some_row, is_other_key};
 ghost use Rattle.table_sets.specs.SetKeys.{is_of_set, first_row, keys_of};
 
 // Of the rows of a type and a set id: where the first starts, or the length of the file, and whether some row has another key than it.
-#[derive(Drop)]
+#[derive(Clone, Copy)]
 pub struct Keys {
     pub first: usize,
     pub several: bool,

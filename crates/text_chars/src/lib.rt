@@ -1,4 +1,6 @@
 // The characters of a document: UTF-8 by RFC 3629, and only the characters of XML 1.0's production [2], `Char`.
+#![tactic(auto)]
+
 ghost use Rattle.std.specs.Prelude.{◌≡◌, ◌+◌, ◌<◌, ◌≤◌, length, get_or};
 ghost use Rattle.text_chars.specs.Utf8.{is_xml_char, sound, width_of, char_at, first_bad};
 ghost use Rattle.text_chars.specs.Blocks.{plains, bad_from, bad_walked};

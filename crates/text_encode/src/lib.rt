@@ -1,4 +1,6 @@
 // The bytes of a code point, and bytes stored where there is a place for them.
+#![tactic(auto)]
+
 ghost use Rattle.std.specs.Prelude.{◌≡◌, length, set};
 ghost use Rattle.std.proofs.lemmas.List.Edits.{sets};
 ghost use Rattle.text_encode.specs.Encode.{encoded};

@@ -1,5 +1,7 @@
 // Byte strings against each other, GUIDs, labeler codes, and strings without a space. No public function asks anything of its caller, and each
 // answers what a definition of specs/ says.
+#![tactic(auto)]
+
 ghost use Rattle.std.specs.Prelude.{◌≡◌};
 ghost use Rattle.text_scan.specs.Bytes.{is_lower_hex};
 ghost use Rattle.text_scan.specs.Lists.{pairs};

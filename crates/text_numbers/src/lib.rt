@@ -1,4 +1,6 @@
 // Decimal numbers: version numbers, and days, which are eight digits, a Gregorian day, year above 0.
+#![tactic(auto)]
+
 ghost use Rattle.std.specs.Prelude.{◌≡◌, true, ◌-◌, ◌≤◌, length};
 ghost use Rattle.text_scan.specs.Bytes.{is_digit};
 ghost use Rattle.text_scan.specs.Lists.{every};

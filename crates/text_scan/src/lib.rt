@@ -1,10 +1,12 @@
 // What every scanner shares: the byte at a position, digits, letters made small, and a text at a position.
+#![tactic(auto)]
+
 ghost use Rattle.std.specs.Prelude.{◌≡◌, ◌<◌, get_or};
 ghost use Rattle.text_scan.specs.Bytes.{is_digit, lower};
 ghost use Rattle.text_scan.specs.Lists.{every, stands, run_from};
 
 // Where something ends that was looked for: the place after it, or nothing.
-#[derive(Drop)]
+#[derive(Clone, Copy)]
 pub enum Found {
     At(usize),
     Nothing,

@@ -1,4 +1,6 @@
 // Telephone values (procedure 29).
+#![tactic(auto)]
+
 ghost use Rattle.std.specs.Prelude.{◌≡◌, ◌≤◌, length};
 ghost use Rattle.text_telephones.specs.Telephones.{group_end, groups_end, ends_at, is_telephone};
 

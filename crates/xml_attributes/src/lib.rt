@@ -1,4 +1,6 @@
 // The attributes of a tag, one after the other, and how the tag ends.
+#![tactic(auto)]
+
 ghost use Rattle.std.specs.Prelude.{◌≡◌};
 ghost use Rattle.xml_attributes.specs.Attributes.{attribute_at};
 ghost use Rattle.xml_attributes.specs.Parts.{part_at};
@@ -6,7 +8,7 @@ ghost use Rattle.xml_attributes.specs.Parts.{part_at};
 use text_scan::Found;
 
 // An attribute: the end of its name, the first byte of its value, and the quote that closes it.
-#[derive(Drop)]
+#[derive(Clone, Copy)]
 pub enum Attribute {
     At {
         name_end: usize,
@@ -17,7 +19,7 @@ pub enum Attribute {
 }
 
 // A tag: the place after it, or the number of a refusal.
-#[derive(Drop)]
+#[derive(Clone, Copy)]
 pub enum Tag {
     Start(usize),
     Empty(usize),
@@ -25,7 +27,7 @@ pub enum Tag {
 }
 
 // What stands in a tag behind its name or behind an attribute: the next attribute, which begins at `at`, or how the tag ends.
-#[derive(Drop)]
+#[derive(Clone, Copy)]
 pub enum TagPart {
     Read {
         at: usize,

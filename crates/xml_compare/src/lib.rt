@@ -1,4 +1,6 @@
 // Whether a value says given bytes, with no decoded copy of it.
+#![tactic(auto)]
+
 ghost use Rattle.std.specs.Prelude.{◌≡◌, ◌<◌, ◌≤◌, length};
 ghost use Rattle.text_facts.specs.Strings.{equal};
 ghost use Rattle.text_encode.specs.Encode.{encoded};

@@ -1,4 +1,6 @@
 // The XML declaration.
+#![tactic(auto)]
+
 ghost use Rattle.std.specs.Prelude.{◌≡◌};
 ghost use Rattle.xml_declaration.specs.Declaration.{is_declaration, stands_in, setting_end, standalone_end, declaration_end};
 

@@ -1,4 +1,6 @@
 // Whether two of many names are the same, in time that grows with their bytes and little more: their positions are sorted by the names.
+#![tactic(auto)]
+
 ghost use Rattle.std.specs.Prelude.{◌≡◌, ◌*◌, ◌≤◌, length};
 ghost use Rattle.sort_compare.specs.Keys.{key_at};
 ghost use Rattle.sort_places.specs.Sorting.{Sorted};

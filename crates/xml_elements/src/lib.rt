@@ -15,7 +15,7 @@ use xml_steps::Stepped;
 const FEW: usize = 2048;
 
 // How many elements a document has, or a refusal's number and place.
-#[derive(Drop)]
+#[derive(Clone, Copy)]
 pub enum Answer {
     Elements(usize),
     Refused(u32, usize),

@@ -1,10 +1,12 @@
 // The values of three attributes of a tag.
+#![tactic(auto)]
+
 ghost use Rattle.std.specs.Prelude.{◌≡◌};
 ghost use Rattle.xml_listed.specs.Listed.{listed_in};
 
 use xml_values::Place;
 
-#[derive(Drop)]
+#[derive(Clone, Copy)]
 pub struct Listed {
     pub x: Place,
     pub y: Place,

@@ -1,4 +1,6 @@
 // The pieces of markup that are read over: comments and processing instructions.
+#![tactic(auto)]
+
 ghost use Rattle.std.specs.Prelude.{◌≡◌};
 ghost use Rattle.xml_markup.specs.Comments.{comment_end};
 ghost use Rattle.xml_markup.specs.AnyCase.{stands_any_case};
@@ -8,7 +10,7 @@ use text_scan::Found;
 use xml_reader::Reader;
 
 // A piece of markup: the place after it, or the number of a refusal.
-#[derive(Drop)]
+#[derive(Clone, Copy)]
 pub enum Scanned {
     End(usize),
     Refused(u32),

@@ -1,4 +1,6 @@
 // What all markup is made of: white space, names, and what stands between a name and its value.
+#![tactic(auto)]
+
 ghost use Rattle.std.specs.Prelude.{◌≡◌};
 ghost use Rattle.text_scan.specs.Lists.{run_from};
 ghost use Rattle.xml_names.specs.Names.{is_space, is_name_start, is_name_char, space_end, name_end, name_is};

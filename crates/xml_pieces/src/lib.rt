@@ -4,7 +4,7 @@ ghost use Rattle.xml_pieces.specs.Pieces.{found, only_space, text_piece_at, bang
 
 use text_scan::Found;
 
-#[derive(Drop)]
+#[derive(Clone, Copy)]
 pub enum Kind {
     Text,
     Comment,
@@ -16,14 +16,14 @@ pub enum Kind {
 }
 
 // The part of the document in which a piece stands: before the root, inside it or after it.
-#[derive(Drop)]
+#[derive(Clone, Copy)]
 pub enum DocumentPart {
     Before,
     Inside,
     After,
 }
 
-#[derive(Drop)]
+#[derive(Clone, Copy)]
 pub enum Scanned {
     Piece(Kind, usize),
     Refused(u32),

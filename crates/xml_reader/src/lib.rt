@@ -1,9 +1,11 @@
 // The reader's state and its limits.
+#![tactic(auto)]
+
 ghost use Rattle.std.specs.Prelude.{◌≡◌};
 
 // Where a reading stands: the place of the next piece, the elements so far, how many of them are open, and the number of the
 // innermost open one.
-#[derive(Drop)]
+#[derive(Clone, Copy)]
 pub struct Reader {
     pub at: usize,
     pub count: usize,

@@ -1,4 +1,6 @@
 // References, where an attribute value or a run of text that may hold them ends, and what such bytes say.
+#![tactic(auto)]
+
 ghost use Rattle.std.specs.Prelude.{◌≡◌, ◌+◌, ◌<◌, ◌≤◌, length, drop};
 ghost use Rattle.std.proofs.lemmas.List.Edits.{sets};
 ghost use Rattle.text_scan.specs.Bytes.{text};
@@ -11,7 +13,7 @@ ghost use Rattle.xml_references.specs.Decoded.{replaced, decoded};
 use text_scan::Found;
 
 // The character that a reference stands for, with the reference's width in bytes, where one stands.
-#[derive(Drop)]
+#[derive(Clone, Copy)]
 pub enum Reference {
     Char(usize, u32),
     Nothing,

@@ -1,4 +1,6 @@
 // Whether a tag of many attributes has two of the same name.
+#![tactic(auto)]
+
 ghost use Rattle.std.specs.Prelude.{◌≡◌, ◌*◌, ◌≤◌, length, set};
 ghost use Rattle.std.proofs.lemmas.List.Edits.{sets};
 ghost use Rattle.xml_reader.specs.Limits.{document_limit};

@@ -13,7 +13,7 @@ use xml_pieces::{DocumentPart, Kind, Scanned};
 use xml_reader::Reader;
 
 // What follows a piece: the reader goes on, or stops with a refusal's number.
-#[derive(Drop)]
+#[derive(Clone, Copy)]
 pub enum Stepped {
     On(Reader),
     Stopped(u32),

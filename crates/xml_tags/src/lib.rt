@@ -16,7 +16,7 @@ use xml_attributes::{Tag, TagPart};
 use xml_reader::Reader;
 
 // What one reading of a tag brings: how it ends, its attributes' number, and whether one of them passes a limit.
-#[derive(Drop)]
+#[derive(Clone, Copy)]
 struct Body {
     ending: Tag,
     count: usize,

@@ -21,5 +21,5 @@ text_value_out κs a x y s t p q = only p.leaves q.leaves
 pub text_bytes : Decides text.Kinds.ps text.Kinds.r text.Reads.Post (λ κs x s. x.now)
 text_bytes κs a x y s t p q = only p.says q.says
 
-pub text_place_lem : Decides text.Kinds.ps text.Kinds.r text.Reads.Post (λ κs x s. x.ptr)
+pub text_place_lem : Decides text.Kinds.ps text.Kinds.r text.Reads.Post (λ κs x s. x.ref_ptr)
 text_place_lem κs a x y s t p q = only p.stands q.stands

@@ -5,7 +5,7 @@ ghost use Rattle.xml_attributes.specs.Chains.{ending};
 ghost use Rattle.xml_values.specs.Attributes.{tag_from};
 ghost use Rattle.xml_texts.specs.Texts.{content_of, content_at, content_from, content_to, text_place, said_from, text_of};
 ghost use Rattle.xml_texts.specs.Child.{is_child};
-ghost use Rattle.xml_values.specs.Views.{view_in, said_in, plain_of, Shows, ShowsAt};
+ghost use Rattle.xml_values.specs.Views.{view_in, said_in, plain_of, Shows, as_read, ShowsAt};
 
 use text_scan::Found;
 use xml_attributes::{Tag, TagPart};
@@ -15,7 +15,7 @@ use xml_values::{Place, View};
 
 // What a piece is to the content in which it stands: character data up to a place, a part that is dropped up to a place, the end tag, or what
 // leaves no text.
-#[derive(Drop)]
+#[derive(Clone, Copy)]
 pub enum Content {
     Said(usize),
     Dropped(usize),
@@ -190,7 +190,7 @@ pub fn text_value(s: &[u8], first: usize, out: &mut [u8]) -> View
 
 // The text of the element that begins at `first`: that part of s, or the front of `out`.
 pub fn text<'d: 's, 's>(s: &'d [u8], first: usize, out: &'s mut [u8]) -> &'s [u8]
-    ensures { ShowsAt s.entry out.entry (view_in out.old s.now (text_place s.now first) (text_of s.now first)) (said_in out.old (text_of s.now first)) result }
+    ensures { ShowsAt s.entry (as_read out.entry) (view_in out.old s.now (text_place s.now first) (text_of s.now first)) (said_in out.old (text_of s.now first)) result }
 {
     let view = text_value(s, first, out);
     let t = &out[..];

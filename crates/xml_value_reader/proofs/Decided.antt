@@ -13,5 +13,5 @@ fill_scratch κs a x y s t p q = only p.leaves q.leaves
 pub value_bytes : Decides value.Kinds.ps value.Kinds.r value.Reads.Post (λ κs x s. x.now)
 value_bytes κs a x y s t p q = only p.says q.says
 
-pub value_place_lem : Decides value.Kinds.ps value.Kinds.r value.Reads.Post (λ κs x s. x.ptr)
+pub value_place_lem : Decides value.Kinds.ps value.Kinds.r value.Reads.Post (λ κs x s. x.ref_ptr)
 value_place_lem κs a x y s t p q = only p.stands q.stands

@@ -2,7 +2,7 @@
 ghost use Rattle.std.specs.Prelude.{◌≡◌, ◌≤◌, length, take};
 ghost use Rattle.text_scan.specs.declared.Found.{Found};
 ghost use Rattle.xml_tags.specs.EndTags.{end_tag_end};
-ghost use Rattle.xml_values.specs.Views.{Shows, ShowsAt};
+ghost use Rattle.xml_values.specs.Views.{Shows, as_read, ShowsAt};
 ghost use Rattle.xml_value_reader.specs.Shown.{is_sound, is_tag as tag_is, opens, ends_with, is_element, place_in, bytes_in, moved as movedBy, shown_of, value_of, Fills};
 ghost use Rattle.xml_value_reader.specs.Moved.{Moves};
 
@@ -123,7 +123,7 @@ pub fn value<'d: 's, 's>(
     after: usize,
     name: &[u8],
 ) -> &'s [u8]
-    ensures { ShowsAt document.entry scratch.entry (shown_of document.now scratch.old first after name.now).view (value_of document.now scratch.old first after name.now) result }
+    ensures { ShowsAt document.entry (as_read scratch.entry) (shown_of document.now scratch.old first after name.now).view (value_of document.now scratch.old first after name.now) result }
 {
     let view = fill(document, scratch, first, after, name);
     let t = &scratch[..];

@@ -38,11 +38,11 @@ attribute_value_out κs a x y s t p q = only p.leaves q.leaves
 pub shown_bytes : Decides shown.Kinds.ps shown.Kinds.r shown.Reads.Post (λ κs x s. x.now)
 shown_bytes κs a x y s t p q = only p.says q.says
 
-pub shown_place : Decides shown.Kinds.ps shown.Kinds.r shown.Reads.Post (λ κs x s. x.ptr)
+pub shown_place : Decides shown.Kinds.ps shown.Kinds.r shown.Reads.Post (λ κs x s. x.ref_ptr)
 shown_place κs a x y s t p q = only p.stands q.stands
 
 pub attribute_bytes : Decides attribute.Kinds.ps attribute.Kinds.r attribute.Reads.Post (λ κs x s. x.now)
 attribute_bytes κs a x y s t p q = only p.says q.says
 
-pub attribute_place_lem : Decides attribute.Kinds.ps attribute.Kinds.r attribute.Reads.Post (λ κs x s. x.ptr)
+pub attribute_place_lem : Decides attribute.Kinds.ps attribute.Kinds.r attribute.Reads.Post (λ κs x s. x.ref_ptr)
 attribute_place_lem κs a x y s t p q = only p.stands q.stands

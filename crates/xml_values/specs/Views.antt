@@ -3,7 +3,7 @@
 -- Assumes nothing.
 use Rattle.std.specs.Prelude.{ℕ, ◌+◌, ◌≤◌, ◌≡◌, Bool, List, [], ◌++◌, eqb, leb, length, take, drop}
 use Prim.Native.Char.{code}
-use Rattle.std.specs.Borrow.{Bor}
+use Rattle.std.specs.Borrow.{Bor, MutBor}
 use Rattle.text_scan.specs.Choice.{pick, ◌and◌, not}
 use Rattle.text_scan.specs.Lists.{every}
 use Rattle.xml_reader.specs.Limits.{value_limit}
@@ -59,10 +59,14 @@ pub record Shows (s : List ℕ) (place : Place) (bytes scratch : List ℕ) (view
   pub answers : view ≡ view_in scratch s place bytes
   pub leaves : after ≡ scratch_after (view_in scratch s place bytes) bytes scratch
 
+-- a slice that is lent for writing, as one that is read
+abbrev pub as_read : MutBor (List ℕ) → Bor (List ℕ)
+as_read w = record { ref_ptr = w.ref_ptr; now = w.now }
+
 -- where the bytes of a view stand: so many behind the first of the document, or from the first of the scratch area on
 abbrev pub stand_of : Bor (List ℕ) → Bor (List ℕ) → View → ℕ × ℕ
-stand_of s scratch (Document a e) = (s.ptr.0, a + s.ptr.1)
-stand_of s scratch (Scratch n) = scratch.ptr
+stand_of s scratch (Document a e) = (s.ref_ptr.0, a + s.ref_ptr.1)
+stand_of s scratch (Scratch n) = scratch.ref_ptr
 
 -- the slice that shows a value: it says these bytes, and stands where the view has them
 pub record ShowsAt (s scratch : Bor (List ℕ)) (view : View) (bytes : List ℕ) (r : Bor (List ℕ)) : Type 0 where

@@ -1,23 +1,25 @@
 // The values of a tag's attributes, of documents that were read: nothing is judged again. And how a value is shown.
+#![tactic(auto)]
+
 ghost use Rattle.std.specs.Prelude.{◌≡◌, [], ◌∷◌, length};
 ghost use Rattle.text_scan.specs.Choice.{◌and◌, not};
 ghost use Rattle.text_scan.specs.Lists.{every};
 ghost use Rattle.xml_names.specs.Names.{name_end};
 ghost use Rattle.xml_values.specs.Attributes.{name_after, is_bare, attribute_place, attribute_of, is_listed, has_other};
-ghost use Rattle.xml_values.specs.Views.{is_shown, view_in, said_in, plain_of, seen, InRange, view_within, Shows, ShowsAt};
+ghost use Rattle.xml_values.specs.Views.{is_shown, view_in, said_in, plain_of, seen, InRange, view_within, Shows, as_read, ShowsAt};
 
 use xml_attributes::TagPart;
 use xml_reader::Reader;
 
 // Where a raw value stands: its first byte and the place after it.
-#[derive(Drop)]
+#[derive(Clone, Copy)]
 pub enum Place {
     At(usize, usize),
     Nothing,
 }
 
 // How a value is shown: as a part of the document, or as so many bytes in front of the scratch area.
-#[derive(Drop)]
+#[derive(Clone, Copy)]
 pub enum View {
     Document(usize, usize),
     Scratch(usize),
@@ -211,7 +213,7 @@ pub fn shown<'d: 's, 's>(document: &'d [u8], scratch: &'s [u8], view: View) -> &
 
 // What the attribute `name` of the tag that begins at `first` says: that part of s, or the front of `out`.
 pub fn attribute<'d: 's, 's>(s: &'d [u8], first: usize, name: &[u8], out: &'s mut [u8]) -> &'s [u8]
-    ensures { ShowsAt s.entry out.entry (view_in out.old s.now (attribute_place s.now first name.now) (attribute_of s.now first name.now)) (said_in out.old (attribute_of s.now first name.now)) result }
+    ensures { ShowsAt s.entry (as_read out.entry) (view_in out.old s.now (attribute_place s.now first name.now) (attribute_of s.now first name.now)) (said_in out.old (attribute_of s.now first name.now)) result }
 {
     let view = attribute_value(s, first, name, out);
     let t = &out[..];

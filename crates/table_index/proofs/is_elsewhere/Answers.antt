@@ -1,0 +1,12 @@
+use Rattle.table_index.specs.Indexed.{keeps_row}
+use Rattle.table_rows.proofs.Tests.{no_first}
+use Rattle.table_index.proofs.Lookups.{but}
+use Rattle.table_index.proofs.is_elsewhere.Goals as goal
+
+pub returns-then-field_is : goal.returns-then-field_is
+unfolding keeps_row
+returns-then-field_is c = search but
+
+pub returns : goal.returns
+unfolding keeps_row
+returns c = search no_first

@@ -1,0 +1,12 @@
+-- `table_lines::until` meets its contract. The invariant: the place that is looked for, told from `at`, is that told from i.
+use Prim.Native.Nat.{◌-◌}
+use lib.ListN.{length}
+use Rattle.text_scan.proofs.Lists.{Run}
+use Rattle.table_lines.specs.Lines.{other}
+use Rattle.table_lines.proofs.until.Given as goal
+
+abbrev pub invariant-loop-i : goal.invariant-loop-i
+invariant-loop-i l = Run (other l.b) l.s l.at l.i
+
+abbrev pub decreases-loop-i : goal.decreases-loop-i
+decreases-loop-i l = length l.s - l.i

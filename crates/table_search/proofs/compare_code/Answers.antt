@@ -1,0 +1,14 @@
+use Rattle.table_search.proofs.Asking.{end_fits, code_less, code_more, code_same}
+use Rattle.table_search.proofs.compare_code.Goals as goal
+
+pub overflow_add-at : goal.overflow_add-at
+overflow_add-at c = search end_fits
+
+pub returns-in-Less : goal.returns-in-Less
+returns-in-Less c = search code_less
+
+pub returns-in-More : goal.returns-in-More
+returns-in-More c = search code_more
+
+pub returns-in-Same : goal.returns-in-Same
+returns-in-Same c = search code_same

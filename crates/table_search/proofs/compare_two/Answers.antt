@@ -1,0 +1,14 @@
+use Rattle.table_search.proofs.Asking.{end_fits, two_less, two_more, two_same}
+use Rattle.table_search.proofs.compare_two.Goals as goal
+
+pub overflow_add-at : goal.overflow_add-at
+overflow_add-at c = search end_fits
+
+pub returns-in-Less : goal.returns-in-Less
+returns-in-Less c = search two_less
+
+pub returns-in-More : goal.returns-in-More
+returns-in-More c = search two_more
+
+pub returns-in-Same : goal.returns-in-Same
+returns-in-Same c = search two_same

@@ -1,0 +1,11 @@
+-- `xml_references::value_end` meets its contract. The invariant: the value's end is the end of the walk from i.
+use Prim.Native.Nat.{◌-◌}
+use lib.ListN.{length}
+use Rattle.xml_references.proofs.Ends.{InValue}
+use Rattle.xml_references.proofs.value_end.Given as goal
+
+abbrev pub invariant-loop-i : goal.invariant-loop-i
+invariant-loop-i l = InValue l.s l.quote l.at l.i
+
+abbrev pub decreases-loop-i : goal.decreases-loop-i
+decreases-loop-i l = length l.s - l.i

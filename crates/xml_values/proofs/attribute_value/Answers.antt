@@ -1,0 +1,24 @@
+use Rattle.xml_values.proofs.Attributes.{place_ahead, place_inside}
+use Rattle.xml_values.proofs.Views.{shows_small, shows_nothing, shows_part, attribute_front}
+use Rattle.xml_values.proofs.attribute_value.Goals as goal
+
+pub returns-then-out-lt-VALUE : goal.returns-then-out-lt-VALUE
+returns-then-out-lt-VALUE c = search shows_small
+
+pub returns-in_default : goal.returns-in_default
+returns-in_default c = search shows_nothing
+
+pub slice_bounds-all_shown-count : goal.slice_bounds-all_shown-count
+slice_bounds-all_shown-count c = search place_ahead
+
+pub slice_bounds-all_shown-start : goal.slice_bounds-all_shown-start
+slice_bounds-all_shown-start c = search place_ahead
+
+pub slice_bounds-all_shown-end : goal.slice_bounds-all_shown-end
+slice_bounds-all_shown-end c = search place_inside
+
+pub returns-then-all_shown : goal.returns-then-all_shown
+returns-then-all_shown c = search shows_part
+
+pub returns : goal.returns
+returns c = search attribute_front
