@@ -1,4 +1,6 @@
 // Procedures 24 and 25: the addresses of a draft.
+#![tactic(auto)]
+
 ghost use Rattle.std.specs.Prelude.{◌≡◌};
 ghost use Rattle.text_scan.specs.Choice.{◌and◌};
 ghost use Rattle.judge_paths.specs.Roles.{State, PostalCode};

@@ -1,4 +1,6 @@
 // The elements below an element that a procedure looks for.
+#![tactic(auto)]
+
 ghost use Rattle.std.specs.Prelude.{◌≡◌, ◌+◌, length};
 ghost use Rattle.text_scan.specs.Choice.{not};
 ghost use Rattle.judge_draft.specs.Drafts.{draft, is_empty};

@@ -1,7 +1,7 @@
 -- The contracts of this crate decide what is answered and left.
 -- Assumes nothing.
 use Rattle.text_scan.proofs.Decides.{only, Answers, Decides}
-use Rattle.judge_both.proofs.Shown.check_both
+use Rattle.judge_both.proofs.check_both
 
 pub check_both_decided : Answers check_both.Kinds.ps check_both.Kinds.r check_both.Reads.Post
 check_both_decided κs a x y s t p q = only p.answers q.answers

@@ -1,4 +1,6 @@
 // Checks a document under two tables files and merges the two lists: what the check under the joined file answers, without that file.
+#![tactic(auto)]
+
 ghost use Rattle.std.specs.Prelude.{◌≡◌, ◌*◌, ◌≤◌, length};
 ghost use Rattle.list_findings.specs.Findings.{width};
 ghost use Rattle.list_records.specs.Kept.{kept_in};

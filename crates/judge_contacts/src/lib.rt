@@ -1,4 +1,6 @@
 // Procedures 23 and 26 to 30: the contacts and telecoms of a draft.
+#![tactic(auto)]
+
 ghost use Rattle.std.specs.Prelude.{◌≡◌};
 ghost use Rattle.judge_draft.specs.Drafts.{draft};
 ghost use Rattle.judge_contacts.specs.Contacts.{has_contact, breaks23, has_telecoms, breaks26, breaks27, breaks28, breaks29, person_holds, breaks30};

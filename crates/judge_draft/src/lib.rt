@@ -1,6 +1,8 @@
 // A draft that was read, for the procedures. It is lent as its document and its notes: what an attribute or the text of an element says, put to a
 // test. The tests look at the document itself where a value says the bytes that stand there, and take a room for it only where it has to be
 // decoded.
+#![tactic(auto)]
+
 ghost use Rattle.std.specs.Prelude.{◌≡◌, ◌+◌, ◌*◌, ◌^◌, ◌<◌, get_or};
 ghost use Rattle.text_facts.specs.Strings.{equal, begins_with};
 ghost use Rattle.judge_draft.specs.Forms.{has_form};

@@ -1,4 +1,6 @@
 // The header of a document and its type.
+#![tactic(auto)]
+
 ghost use Rattle.std.specs.Prelude.{◌≡◌};
 ghost use Rattle.judge_draft.specs.Drafts.{draft};
 ghost use Rattle.judge_below.specs.Chosen.{one, one_has, the};

@@ -1,5 +1,7 @@
 // The rows of the history, asked for with what the elements of a document say. A value that many elements ask with is asked with as its bytes stand in
 // the document, and takes a room only where it has to be decoded. An element is the place of its first byte.
+#![tactic(auto)]
+
 ghost use Rattle.std.specs.Prelude.{◌≡◌};
 ghost use Rattle.text_scan.specs.Bytes.{text};
 ghost use Rattle.table_lines.specs.Lines.{rows_at};

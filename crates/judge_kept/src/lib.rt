@@ -1,5 +1,7 @@
 // What is kept of each element of a draft beside its row, so that no tag is walked twice: where its text and the attributes that its role lists stand,
 // if they say the bytes there, and whether it has no other attribute. It changes no answer: what is not kept is read of the document.
+#![tactic(auto)]
+
 ghost use Rattle.std.specs.Prelude.{◌≡◌, [], ◌∷◌, ◌++◌, ◌+◌, ◌*◌, ◌^◌, ◌≤◌, ◌<◌, length, get_or};
 ghost use Rattle.std.proofs.lemmas.List.Edits.{sets};
 ghost use Rattle.judge_paths.specs.Attributes.{is_role};

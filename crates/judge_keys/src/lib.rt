@@ -1,4 +1,6 @@
 // Procedures 19 to 22: the labeler code, and the keys of the history.
+#![tactic(auto)]
+
 ghost use Rattle.std.specs.Prelude.{◌≡◌};
 ghost use Rattle.text_scan.specs.Choice.{◌and◌};
 ghost use Rattle.text_scan.specs.Bytes.{text};

@@ -1,4 +1,6 @@
 // Procedures 1 to 4: the root, and the elements and attributes that are known.
+#![tactic(auto)]
+
 ghost use Rattle.std.specs.Prelude.{◌≡◌, false};
 ghost use Rattle.xml_values.specs.Attributes.{has_other};
 ghost use Rattle.judge_paths.specs.Attributes.{attribute_table, listed_names};

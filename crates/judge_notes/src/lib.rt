@@ -1,5 +1,7 @@
 // The notes of a document: the element table with the role of each element in place of its number. A role is asked of the parent's number by
 // recursion, which remembers the roles that are noted already.
+#![tactic(auto)]
+
 ghost use Rattle.std.specs.Prelude.{◌≡◌, ◌++◌, ◌+◌, ◌*◌, ◌/◌, ◌^◌, ◌≤◌, ◌<◌, length, take, drop, get_or, set};
 ghost use Rattle.xml_steps.specs.Reading.{parent_of};
 ghost use Rattle.judge_paths.specs.Paths.{role_of};

@@ -1,4 +1,6 @@
 // Procedures 33, 34, 37 and 38: the operation codes of an entity.
+#![tactic(auto)]
+
 ghost use Rattle.std.specs.Prelude.{◌≡◌};
 ghost use Rattle.judge_draft.specs.Drafts.{draft};
 ghost use Rattle.judge_operations.specs.Operations.{of_nci, is_agency, breaks33, demand34, has_establishment, breaks37, breaks38};

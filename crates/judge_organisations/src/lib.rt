@@ -1,4 +1,6 @@
 // Procedures 14 to 18: the organisations of a draft.
+#![tactic(auto)]
+
 ghost use Rattle.std.specs.Prelude.{◌≡◌};
 ghost use Rattle.judge_draft.specs.declared.Demand.TheVariants.{NameRow};
 ghost use Rattle.judge_draft.specs.Drafts.{draft};

@@ -1,4 +1,6 @@
 // Which elements are known and as what.
+#![tactic(auto)]
+
 ghost use Rattle.std.specs.Prelude.{◌≡◌, length};
 ghost use Rattle.judge_paths.specs.Paths.{upper_table, labeler_table, organisation_table, entity_table, contact_table, table, role_named, is_judged, child_role};
 ghost use Rattle.judge_paths.specs.Roles.{Author};

@@ -1,4 +1,6 @@
 // Procedures 31, 32, 35 and 36: the registrant, its establishments and their agents.
+#![tactic(auto)]
+
 ghost use Rattle.std.specs.Prelude.{◌≡◌};
 ghost use Rattle.judge_draft.specs.Drafts.{draft};
 ghost use Rattle.judge_registrations.specs.Registrations.{breaks31, breaks32, in_usa, breaks35, breaks36};

@@ -1,4 +1,6 @@
 // Procedures 5 to 13: the children of the root, each of which there is one of, and the labeler.
+#![tactic(auto)]
+
 ghost use Rattle.std.specs.Prelude.{◌≡◌, eqb, length};
 ghost use Rattle.judge_draft.specs.Drafts.{draft};
 ghost use Rattle.judge_tests.specs.declared.Test.TheVariants.{Any};

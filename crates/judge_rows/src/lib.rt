@@ -1,5 +1,7 @@
 // The rows of the code list and the register, asked for with what the elements of a document say. A value is asked with as its bytes stand in the
 // document, and takes a room only where it has to be decoded. An element is the place of its first byte.
+#![tactic(auto)]
+
 ghost use Rattle.std.specs.Prelude.{◌≡◌, []};
 ghost use Rattle.text_scan.specs.Bytes.{text};
 ghost use Rattle.table_lines.specs.Lines.{rows_at};

@@ -1,4 +1,6 @@
 // The tests that an element which a procedure counts is put to.
+#![tactic(auto)]
+
 ghost use Rattle.std.specs.Prelude.{◌≡◌};
 ghost use Rattle.judge_draft.specs.Drafts.{draft};
 ghost use Rattle.judge_tests.specs.Passing.{passes};

@@ -1,4 +1,6 @@
 // The type of a document that was read, told by its header.
+#![tactic(auto)]
+
 ghost use Rattle.std.specs.Prelude.{◌≡◌, ◌*◌, ◌/◌, ◌≤◌, length};
 ghost use Rattle.xml_nesting.specs.Nested.{Nested};
 ghost use Rattle.judge_paths.specs.declared.DocumentType.TheVariants.{Neither};

@@ -1,6 +1,8 @@
 // The merge of two lent lists of findings, slices of records that are walked together. A function over such a slice is thin: it reads a
 // record, or hands the slices on. What decides takes values: `decide`, `follows` and `judge`.
 // A place in a list is counted in numbers, as in `list_steps`, so that the steps are the same.
+#![tactic(auto)]
+
 ghost use Rattle.std.specs.Prelude.{◌≡◌, ◌+◌, ◌/◌, ◌^◌, ◌<◌, ◌≤◌, length, drop};
 ghost use Rattle.text_scan.specs.Choice.{◌and◌};
 ghost use Rattle.text_scan.specs.declared.Found.{Found};

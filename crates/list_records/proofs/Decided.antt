@@ -1,8 +1,8 @@
 -- The contracts of this crate decide what is answered and left.
 -- Assumes nothing.
 use Rattle.text_scan.proofs.Decides.{only, Answers, Decides}
-use Rattle.list_records.proofs.Shown.keep
-use Rattle.list_records.proofs.Shown.merge_parts
+use Rattle.list_records.proofs.keep
+use Rattle.list_records.proofs.merge_parts
 
 pub keep_decided : Answers keep.Kinds.ps keep.Kinds.r keep.Reads.Post
 keep_decided κs a x y s t p q = only p.0 q.0

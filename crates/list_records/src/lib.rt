@@ -1,5 +1,7 @@
 // Findings as structs in a lent room: the records of a list of numbers are kept there, and two runs of them are merged. A function over the room is
 // thin: it stores a record, or hands the room on. Whether records fit is decided on numbers, by `fits`.
+#![tactic(auto)]
+
 ghost use Rattle.std.specs.Prelude.{◌≡◌, ◌+◌, ◌<◌, ◌≤◌, length, take, drop, set};
 ghost use Rattle.list_findings.specs.Findings.{flat};
 ghost use Rattle.list_findings.specs.Merge.{IsMerged};

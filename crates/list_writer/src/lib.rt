@@ -1,5 +1,4 @@
-// The findings list: a lent run of 32-bit numbers that is filled from its front, one record at a time. A function that takes, makes,
-// returns or has a local of a `Listing` is proved by a walk of its MIR, by hand; `place`, which does the work, is covered.
+// The findings list: a lent run of 32-bit numbers that is filled from its front, one record at a time.
 #![tactic(auto)]
 
 ghost use Rattle.std.specs.Prelude.{◌≡◌};
@@ -16,8 +15,7 @@ pub struct Listing<'a> {
 
 // A lent list of which `count` records are filled.
 pub fn hold<'a>(list: &'a mut [u32], count: usize) -> Listing<'a>
-    ensures held { (result.list ≡ list.entry) × (result.count ≡ count) }
-    ensures same_reference { result.list.ghost_name ≡ list.entry.ghost_name }
+    ensures { (result.list ≡ list.entry) × (result.count ≡ count) }
 {
     Listing {
         list: list,
@@ -38,8 +36,7 @@ fn place(list: &mut [u32], count: usize, finding: Finding) -> usize
 
 // Appends a record if there is room. The struct is taken apart, and put together again with the new count.
 pub fn append<'a>(listing: Listing<'a>, finding: Finding) -> Listing<'a>
-    ensures filled { result ≡ appended listing.entry finding }
-    ensures same_reference { result.list.ghost_name ≡ listing.entry.list.ghost_name }
+    ensures { result ≡ appended listing.entry finding }
 {
     let count = listing.count;
     let next = place(&mut *listing.list, count, finding);
@@ -49,10 +46,18 @@ pub fn append<'a>(listing: Listing<'a>, finding: Finding) -> Listing<'a>
     }
 }
 
-// The same of a list and a count: its contract says nothing of a `Listing`, so whoever calls it needs no walk by hand.
+// Holds a list of which `count` records are filled, and appends a record. What it returns holds the same borrow, so whoever lets go of
+// it knows the list.
+fn append_to<'a>(list: &'a mut [u32], count: usize, finding: Finding) -> Listing<'a>
+    ensures { result ≡ appended (record { list = list.entry; count = count }) finding }
+{
+    append(hold(list, count), finding)
+}
+
+// The same of a list and a count, for callers that have no `Listing`.
 pub fn append_at(list: &mut [u32], count: usize, finding: Finding) -> usize
     ensures { (result ≡ count_after list.old count) × (list.new ≡ list_after list.old count finding) }
 {
-    let Listing { list: _, count: next } = append(hold(list, count), finding);
-    next
+    let listing = append_to(list, count, finding);
+    listing.count
 }

@@ -3,7 +3,7 @@
 use Rattle.text_scan.proofs.Decides.{only, Answers, Decides}
 use Rattle.program_exports.proofs.bd_version
 use Rattle.program_exports.proofs.bd_check
-use Rattle.program_exports.proofs.Shown.bd_merge
+use Rattle.program_exports.proofs.bd_merge
 use Rattle.program_exports.proofs.bd_value
 
 pub bd_version_decided : Answers bd_version.Kinds.ps bd_version.Kinds.r bd_version.Reads.Post

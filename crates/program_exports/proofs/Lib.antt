@@ -1,4 +1,3 @@
--- What the proofs of the functions use. `Shown`, and `bd_merge/Proof`, are derived (tools/derive.sh).
-pub mod Shown
+-- What the proofs of the functions use.
 pub mod Told
 pub mod Decided

@@ -1,4 +1,6 @@
 // What programs in C and other languages call: the check, the merge, the value reader, and which interface this is. `host/benchdowel.h` declares them.
+#![tactic(auto)]
+
 ghost use Rattle.std.specs.Prelude.{◌≡◌};
 ghost use Rattle.program_exports.specs.Numbers.{version, check_numbers, merge_numbers, shown_part, Checks, Merges, Reads};
 ghost use Rattle.judge_check.specs.Check.{check_of};

@@ -1,6 +1,6 @@
 -- The edges that document 01 marks to be proved: one table under one statement, which the checker computes.
 -- Assumes nothing.
-use Rattle.std.specs.Prelude.{ℕ, Bool, true, false, List, [], ◌∷◌, T}
+use Rattle.std.specs.Prelude.{ℕ, Bool, true, List, [], ◌∷◌, T}
 use Prim.Native.String.{String}
 use Rattle.text_scan.specs.Choice.{◌and◌, not}
 use Rattle.text_scan.specs.Bytes.{text}

@@ -1,3 +1,1 @@
--- `Shown`, and `check_both/Proof`, are derived (tools/derive.sh).
-pub mod Shown
 pub mod Fronts

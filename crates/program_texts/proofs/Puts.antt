@@ -7,7 +7,7 @@ use Prim.Native.Nat.{ℕ, zero, suc, ◌+◌, ◌-◌, ◌*◌, ◌^◌, ◌<◌
 use native.Mathlib.Numerals.{add-one}
 use native.Mathlib.Nat.{min-le_right}
 use native.Mathlib.Omega.{arith}
-use lib.ListN.{length, take, drop, get_or, set, length-set, length-take, length-append}
+use lib.ListN.{length, take, drop, get_or, set, length-take, length-append}
 use lib.Seq.{drop-drop, drop-set-lt, take-suc, take-suc-set, take-length, length-take-le}
 use Rattle.text_scan.specs.Bytes.{text}
 use lib.Dec.{leb}

@@ -6,7 +6,7 @@ use Prim.Native.Nat.{ℕ, ◌+◌, ◌*◌, ◌-◌, ◌≤◌, ◌<◌}
 use native.Mathlib.Omega.{arith}
 use lib.ListN.{length, take}
 use lib.Seq.{length-take-le}
-use Rattle.io.specs.Counts.{IsPrefixLen}
+use Rattle.program_vectors.specs.Counts.{IsPrefixLen}
 
 pub front : (n : ℕ) (room : List ℕ) → n ≤ length room → n ≡ length (take n room)
 front n room h = sym (length-take-le n room h)

@@ -1,28 +1,40 @@
 // Holds the small program's answer to what is expected of it. A list has blocks, each a line `== NAME` and then the text that is expected
 // of NAME.xml under NAME.tables: what is printed, or the element table that the check fills. Writes a line for each block that differs,
 // and the counts of each list.
+#![tactic(auto)]
+
 ghost use Rattle.std.specs.Prelude.{◌+◌, ◌*◌, ◌/◌, ◌≤◌, ◌<◌, ◌≡◌, length};
-ghost use Rattle.io.specs.Counts.{IsPrefixLen};
+ghost use Rattle.program_vectors.specs.Counts.{IsPrefixLen};
 ghost use Rattle.program_answer.specs.Small.{Within};
 
-use libc::STDOUT_FILENO;
 use list_findings::WIDTH;
 use program_answer::Got;
+use std::io::ErrorKind;
+use std::rt::Files;
+use std::{fs, io, str};
 
-fn say(text: &[u8]) {
-    io::write_all(STDOUT_FILENO, text);
+fn say(rt: &impl Print, text: &[u8]) -> io::Result<()> {
+    rt.write_all(text)
+}
+
+// Tells on standard error why the files of a name were not read.
+fn fail(rt: &impl Eprint, name: &[u8], e: io::Error) -> io::Result<()> {
+    match str::from_utf8(name) {
+        Ok(name) => eprintln!(rt; "{name}: {e}"),
+        Err(_) => eprintln!(rt; "{e}"),
+    }
 }
 
 // The line of s at i, without its line feed; nothing past the end.
-fn say_line(s: &[u8], i: usize) {
+fn say_line(rt: &impl Print, s: &[u8], i: usize) -> io::Result<()> {
     let e = table_lines::line_end(s, i);
     if e < i {
-        return;
+        return Ok(());
     }
     if s.len() < e {
-        return;
+        return Ok(());
     }
-    say(&s[i..e]);
+    say(rt, &s[i..e])
 }
 
 // The place of the first line in which two texts differ.
@@ -46,18 +58,18 @@ fn differing(a: &[u8], b: &[u8]) -> usize {
 }
 
 // Whether a text is the expected one; if not, says the first lines that differ.
-fn compare(name: &[u8], text: &[u8], expected: &[u8]) -> bool {
+fn compare(rt: &impl Print, name: &[u8], text: &[u8], expected: &[u8]) -> io::Result<bool> {
     if text_facts::same(text, expected) {
-        return true;
+        return Ok(true);
     }
     let line = differing(text, expected);
-    say(name);
-    say(b": `");
-    say_line(text, line);
-    say(b"`, expected `");
-    say_line(expected, line);
-    say(b"`\n");
-    false
+    say(rt, name)?;
+    say(rt, b": `")?;
+    say_line(rt, text, line)?;
+    say(rt, b"`, expected `")?;
+    say_line(rt, expected, line)?;
+    say(rt, b"`\n")?;
+    Ok(false)
 }
 
 // The rows in the front of an element table that held zeros: an element ends behind byte 0.
@@ -137,6 +149,7 @@ fn answer(
 }
 
 fn hold_answer(
+    rt: &impl Print,
     name: &[u8],
     document: &[u8],
     tables: &[u8],
@@ -145,19 +158,27 @@ fn hold_answer(
     elements: &mut [u32],
     list: &mut [u32],
     out: &mut [u8],
-) -> bool
+) -> io::Result<bool>
     requires { (64 + 21 * length list.old ≤ length out.old) × (2048 ≤ length out.old) }
 {
     let n = answer(document, tables, rows, elements, list, out);
-    compare(name, &out[..n], expected)
+    compare(rt, name, &out[..n], expected)
 }
 
 // The rooms are those of the small program.
-fn hold_pair(name: &[u8], document: &[u8], tables: &[u8], rows: bool, expected: &[u8]) -> bool {
+fn hold_pair(
+    rt: &impl Print,
+    name: &[u8],
+    document: &[u8],
+    tables: &[u8],
+    rows: bool,
+    expected: &[u8],
+) -> io::Result<bool> {
     let mut elements = [0u32; 4 * program_answer::ELEMENTS];
     let mut list = [0u32; WIDTH * program_answer::FINDINGS];
     let mut out = [0u8; program_answer::TEXT];
     hold_answer(
+        rt,
         name,
         document,
         tables,
@@ -170,82 +191,92 @@ fn hold_pair(name: &[u8], document: &[u8], tables: &[u8], rows: bool, expected: 
 }
 
 // Opens the file whose name is put together of two texts in a room.
-fn open(name: &[u8], ending: &[u8], path: &mut [u8]) -> i32
+fn open<R: Files>(rt: &R, name: &[u8], ending: &[u8], path: &mut [u8]) -> io::Result<R::File>
     requires { length name.now + length ending.now ≤ length path.old }
 {
     let n = program_texts::put(path, 0, name);
     let m = program_texts::put(path, n, ending);
-    os::open_read(&path[..m])
+    match str::from_utf8(&path[..m]) {
+        Ok(path) => fs::open(rt, path),
+        Err(_) => Err(io::Error::new(ErrorKind::InvalidInput, "the name is not UTF-8")),
+    }
 }
 
 // Opens such a file; names are short.
-fn open_short(name: &[u8], ending: &[u8]) -> i32 {
+fn open_short<R: Files>(rt: &R, name: &[u8], ending: &[u8]) -> io::Result<R::File> {
     let mut path = [0u8; 256];
     if 248 < name.len() {
-        return -1;
+        return Err(io::Error::new(ErrorKind::InvalidInput, "the name is too long"));
     }
     if 8 < ending.len() {
-        return -1;
+        return Err(io::Error::new(ErrorKind::InvalidInput, "the ending is too long"));
     }
-    open(name, ending, &mut path)
+    open(rt, name, ending, &mut path)
 }
 
-fn read_file(name: &[u8], ending: &[u8], room: &mut [u8]) -> Got
+fn read_file(rt: &impl Files, name: &[u8], ending: &[u8], room: &mut [u8]) -> Got
     ensures { Within result room.new }
 {
-    let file = open_short(name, ending);
-    if file < 0 {
-        return Got::Failed;
+    match open_short(rt, name, ending) {
+        Ok(mut file) => program_answer::read(&mut file, room),
+        Err(e) => Got::Failed(e),
     }
-    let got = program_answer::read(file, room);
-    libc::close(file);
-    got
 }
 
 fn hold_files(
+    rt: &(impl Files + Print + Eprint),
     name: &[u8],
     rows: bool,
     expected: &[u8],
     document: &mut [u8],
     tables: &mut [u8],
-) -> bool {
-    let first = read_file(name, b".xml", document);
-    let Got::Bytes(n) = first else {
-        os::fail(name);
-        return false;
+) -> io::Result<bool> {
+    let n = match read_file(rt, name, b".xml", document) {
+        Got::Bytes(n) => n,
+        Got::Failed(e) => {
+            fail(rt, name, e)?;
+            return Ok(false);
+        }
     };
-    let second = read_file(name, b".tables", tables);
-    let Got::Bytes(m) = second else {
-        os::fail(name);
-        return false;
+    let m = match read_file(rt, name, b".tables", tables) {
+        Got::Bytes(m) => m,
+        Got::Failed(e) => {
+            fail(rt, name, e)?;
+            return Ok(false);
+        }
     };
-    hold_pair(name, &document[..n], &tables[..m], rows, expected)
+    hold_pair(rt, name, &document[..n], &tables[..m], rows, expected)
 }
 
 // One byte more than the limit is read, so that a longer file is seen.
-fn hold(name: &[u8], rows: bool, expected: &[u8]) -> bool {
+fn hold(
+    rt: &(impl Files + Print + Eprint),
+    name: &[u8],
+    rows: bool,
+    expected: &[u8],
+) -> io::Result<bool> {
     let mut document = [0u8; program_answer::LIMIT + 1];
     let mut tables = [0u8; program_answer::LIMIT + 1];
-    hold_files(name, rows, expected, &mut document, &mut tables)
+    hold_files(rt, name, rows, expected, &mut document, &mut tables)
 }
 
 // A block that has no name, or no line behind its name, is none that could be held to.
-fn say_no_block() -> bool {
-    say(b"a block has no name or no text\n");
-    false
+fn say_no_block(rt: &impl Print) -> io::Result<bool> {
+    say(rt, b"a block has no name or no text\n")?;
+    Ok(false)
 }
 
 // Whether the answer is the one of a block: its first line and the text behind it.
-fn hold_block(block: &[u8], rows: bool) -> bool {
+fn hold_block(rt: &(impl Files + Print + Eprint), block: &[u8], rows: bool) -> io::Result<bool> {
     let e = table_lines::line_end(block, 0);
     if e < 3 {
-        return say_no_block();
+        return say_no_block(rt);
     }
     if block.len() <= e {
-        return say_no_block();
+        return say_no_block(rt);
     }
     let behind = e + 1;
-    hold(&block[3..e], rows, &block[behind..])
+    hold(rt, &block[3..e], rows, &block[behind..])
 }
 
 // The place of the first block behind `at`, or the length.
@@ -263,19 +294,24 @@ fn next_block(s: &[u8], at: usize) -> usize
     i
 }
 
-fn say_count(n: u64, what: &[u8]) {
-    io::print_decimal(STDOUT_FILENO, n);
-    say(what);
+fn say_count(rt: &impl Print, n: u64, what: &[u8]) -> io::Result<()> {
+    print!(rt; "{n}")?;
+    say(rt, what)
 }
 
 // Holds the answers to all blocks, and says how many there are and how many differ.
-fn hold_blocks(s: &[u8], rows: bool, what: &[u8]) {
+fn hold_blocks(
+    rt: &(impl Files + Print + Eprint),
+    s: &[u8],
+    rows: bool,
+    what: &[u8],
+) -> io::Result<()> {
     let mut held = 0;
     let mut differ = 0;
     let mut i = 0;
     while i < s.len() {
         let e = next_block(s, i);
-        if hold_block(&s[i..e], rows) {
+        if hold_block(rt, &s[i..e], rows)? {
             held += 1;
             i = e;
             continue;
@@ -283,27 +319,31 @@ fn hold_blocks(s: &[u8], rows: bool, what: &[u8]) {
         differ += 1;
         i = e;
     }
-    say_count(held, what);
-    say_count(differ, b" differ\n");
+    say_count(rt, held, what)?;
+    say_count(rt, differ, b" differ\n")
 }
 
-fn hold_list(name: &[u8], rows: bool, what: &[u8], room: &mut [u8]) {
-    let got = read_file(name, b".txt", room);
-    let Got::Bytes(n) = got else {
-        os::fail(name);
-        return;
-    };
-    hold_blocks(&room[..n], rows, what);
+fn hold_list(
+    rt: &(impl Files + Print + Eprint),
+    name: &[u8],
+    rows: bool,
+    what: &[u8],
+    room: &mut [u8],
+) -> io::Result<()> {
+    match read_file(rt, name, b".txt", room) {
+        Got::Bytes(n) => hold_blocks(rt, &room[..n], rows, what),
+        Got::Failed(e) => fail(rt, name, e),
+    }
 }
 
-fn run(name: &[u8], rows: bool, what: &[u8]) {
+fn run(rt: &(impl Files + Print + Eprint), name: &[u8], rows: bool, what: &[u8]) -> io::Result<()> {
     let mut room = [0u8; 65536];
-    hold_list(name, rows, what, &mut room);
+    hold_list(rt, name, rows, what, &mut room)
 }
 
-fn main() {
-    run(b"elements", true, b" element tables as expected, ");
-    run(b"examples", false, b" examples as expected, ");
-    run(b"expected", false, b" vectors as expected, ");
-    run(b"own", false, b" cases of our own as expected, ");
+fn main(rt: HostRuntime) -> io::Result<()> {
+    run(&rt, b"elements", true, b" element tables as expected, ")?;
+    run(&rt, b"examples", false, b" examples as expected, ")?;
+    run(&rt, b"expected", false, b" vectors as expected, ")?;
+    run(&rt, b"own", false, b" cases of our own as expected, ")
 }

@@ -1,4 +1,6 @@
 // The elements of a document: refusals 1 and 5 to 9, and the element table.
+#![tactic(auto)]
+
 ghost use Rattle.std.specs.Prelude.{◌≡◌, ◌+◌, ◌*◌, ◌≤◌, ◌++◌, length, take, drop, get_or, set};
 ghost use Rattle.xml_reader.specs.Limits.{document_limit, elements_limit};
 ghost use Rattle.xml_pieces.specs.Pieces.{piece_at};

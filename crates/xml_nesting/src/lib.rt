@@ -1,1 +1,2 @@
 // The order of an element table: definitions and laws only.
+#![tactic(auto)]

@@ -1,4 +1,6 @@
 // What one piece of a document does to the reading of it: elements are added and closed, within the limits.
+#![tactic(auto)]
+
 ghost use Rattle.std.specs.Prelude.{◌≡◌, ◌+◌, ◌*◌, ◌≤◌, ◌<◌, ◌++◌, length, take, get_or};
 ghost use Rattle.text_scan.specs.Choice.{◌and◌, not};
 ghost use Rattle.xml_reader.specs.Limits.{document_limit, elements_limit};

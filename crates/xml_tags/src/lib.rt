@@ -1,4 +1,6 @@
 // Tags: an element's name and attributes between `<` and `>`.
+#![tactic(auto)]
+
 ghost use Rattle.std.specs.Prelude.{◌≡◌, false, ◌+◌, ◌<◌, eqb, ltb, leb, length, drop, take, get_or, set};
 ghost use Rattle.std.proofs.lemmas.List.Edits.{sets};
 ghost use Rattle.text_scan.specs.Choice.{pick, ◌or◌};

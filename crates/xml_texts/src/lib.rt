@@ -1,4 +1,6 @@
 // The text of an element of a document that was read: nothing is judged again.
+#![tactic(auto)]
+
 ghost use Rattle.std.specs.Prelude.{◌≡◌, ◌++◌, ◌-◌, ◌≤◌, length, drop};
 ghost use Rattle.text_scan.specs.declared.Found.{Found};
 ghost use Rattle.xml_attributes.specs.Chains.{ending};

@@ -1,4 +1,6 @@
 // The value reader: an attribute, or the text, of an element's byte range in any document.
+#![tactic(auto)]
+
 ghost use Rattle.std.specs.Prelude.{◌≡◌, ◌≤◌, length, take};
 ghost use Rattle.text_scan.specs.declared.Found.{Found};
 ghost use Rattle.xml_tags.specs.EndTags.{end_tag_end};

@@ -1,5 +1,4 @@
 -- What was read is within the room, and each turn leaves less of it.
--- Assumes nothing.
 use Rattle.std.proofs.Common.{◌≡◌, ◌-◌, ◌≤◌, length}
 use Rattle.program_merges.proofs.read_full.Given as goal
 

@@ -1,3 +1,0 @@
-pub mod check_both
-pub mod check_second
-pub mod merge_second

@@ -1,3 +1,0 @@
-pub mod keep
-pub mod merge_parts
-pub mod store

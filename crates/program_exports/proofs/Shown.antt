@@ -1,1 +1,0 @@
-pub mod bd_merge

@@ -1,2 +1,0 @@
--- Derived, and so is `merge_records/Proof` (tools/derive.sh).
-pub mod Shown

@@ -1,0 +1,7 @@
+-- How much of a room is filled.
+-- Assumes nothing.
+use Rattle.std.specs.Prelude.{◌≡◌, ◌≤◌, ℕ, List, length, take}
+
+-- the first n bytes of a room lie within it, and are n
+abbrev pub IsPrefixLen : ℕ → List ℕ → Type 0
+IsPrefixLen n xs = (n ≤ length xs) × (n ≡ length (take n xs))
