@@ -1,4 +1,6 @@
 // Whether a demand is broken under the tables.
+#![tactic(auto)]
+
 ghost use Rattle.std.specs.Prelude.{◌≡◌, [], ◌<◌, eqb};
 ghost use Rattle.text_scan.specs.Choice.{pick};
 ghost use Rattle.text_scan.specs.Bytes.{text};

@@ -1,4 +1,6 @@
 // The procedures that an element of a role is asked.
+#![tactic(auto)]
+
 ghost use Rattle.std.specs.Prelude.{◌≡◌, [], ◌∷◌, get_or};
 ghost use Rattle.judge_paths.specs.Attributes.{is_role};
 ghost use Rattle.judge_asked.specs.Asked.{asked_row, plain_roles};

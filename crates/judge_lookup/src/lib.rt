@@ -1,4 +1,6 @@
 // The run in which the rows of a tables file are looked up, filled for one draft. What is left in it is for `judge_answers::is_broken` alone.
+#![tactic(auto)]
+
 ghost use Rattle.std.specs.Prelude.{◌≡◌, true, ◌*◌, ◌<◌, ◌≤◌, length};
 ghost use Rattle.text_scan.specs.Bytes.{text};
 ghost use Rattle.table_index.specs.Indexed.{keeps_row, Serves};

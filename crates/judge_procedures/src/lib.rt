@@ -1,4 +1,6 @@
 // What each procedure demands of an element, by its number.
+#![tactic(auto)]
+
 ghost use Rattle.std.specs.Prelude.{◌≡◌};
 ghost use Rattle.judge_draft.specs.Drafts.{draft};
 ghost use Rattle.judge_draft.specs.Demands.{broken_if};
