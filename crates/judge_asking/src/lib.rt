@@ -1,4 +1,6 @@
 // Each element is asked the procedures that can be found at it, and marked with those that are broken there.
+#![tactic(auto)]
+
 ghost use Rattle.std.specs.Prelude.{◌≡◌, ◌/◌, ◌≤◌, eqb, length};
 ghost use Rattle.std.proofs.lemmas.List.Edits.{sets};
 ghost use Rattle.text_scan.specs.Choice.{◌and◌};

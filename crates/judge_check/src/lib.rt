@@ -1,4 +1,6 @@
 // The check: refusals 1 to 11, and the findings of a draft under the tables.
+#![tactic(auto)]
+
 ghost use Rattle.std.specs.Prelude.{◌≤◌, length};
 ghost use Rattle.xml_reader.specs.Limits.{scratch_limit};
 ghost use Rattle.xml_elements.specs.Elements.{elements_of};

@@ -1,4 +1,6 @@
 // The findings of a document that was read, under tables that were accepted: its type is told, and its notes are taken.
+#![tactic(auto)]
+
 ghost use Rattle.std.specs.Prelude.{◌≡◌, ◌*◌, ◌/◌, ◌≤◌, length};
 ghost use Rattle.xml_reader.specs.Limits.{elements_limit};
 ghost use Rattle.xml_nesting.specs.Nested.{Nested};

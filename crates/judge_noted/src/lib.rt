@@ -1,4 +1,6 @@
 // The findings of a draft whose notes are taken: each element marked once, and the list written of the marks.
+#![tactic(auto)]
+
 ghost use Rattle.std.specs.Prelude.{◌≡◌, ◌*◌, ◌/◌, ◌≤◌, length};
 ghost use Rattle.xml_reader.specs.Limits.{elements_limit};
 ghost use Rattle.judge_draft.specs.Drafts.{draft};
