@@ -1,5 +1,6 @@
 -- Addresses, 24 and 25: one law for each branch of the code.
 -- Assumes nothing.
+use Rattle.std.specs.Prelude.{Option, None, Some, ℕ}
 use mathlib.Core.Path.{◌≡◌, ◌∙◌, ap}
 use mathlib.Core.Bool.{Bool, true, false}
 use mathlib.Core.Logic.{◌⊎◌, inl, inr}
@@ -8,8 +9,6 @@ use borrow.Author.Tests.{ne_eqb}
 use Rattle.text_scan.specs.Choice.{◌and◌, not}
 use Rattle.text_scan.proofs.Tests.{and_true, and_false}
 use Rattle.text_scan.specs.Bytes.{text}
-use Rattle.text_scan.specs.declared.Found.{Found}
-use Rattle.text_scan.specs.declared.Found.TheVariants.{At, Nothing}
 use Rattle.text_facts.specs.Strings.{equal}
 use Rattle.judge_paths.specs.Roles.{Establishment, ContactParty, Addr, StreetAddressLine, City, State, PostalCode, Country}
 use Rattle.judge_tests.specs.declared.Test.TheVariants.{Any, Empty}
@@ -20,12 +19,12 @@ use Rattle.judge_organisations.specs.Organisations.{is_said}
 use Rattle.judge_addresses.specs.Addresses.{one_said, lines_said, is_address, address_holds, breaks24, is_usa, breaks25}
 
 -- ---- one child of a role that says something
-module _ (d : Draft) (n : ℕ) (r : ℕ) (x : Found) (e : x ≡ only_kid d n r) where
-  pub said_none : x ≡ Nothing → false ≡ one_said d n r
+module _ (d : Draft) (n : ℕ) (r : ℕ) (x : Option ℕ) (e : x ≡ only_kid d n r) where
+  pub said_none : x ≡ None → false ≡ one_said d n r
   unfolding one_said
   said_none f = rw (← e, f)
 
-  pub said_one : (k : ℕ) → x ≡ At k → (b : Bool) → b ≡ is_said d k → b ≡ one_said d n r
+  pub said_one : (k : ℕ) → x ≡ Some k → (b : Bool) → b ≡ is_said d k → b ≡ one_said d n r
   unfolding one_said
   said_one k f b g = g ∙ rw (← e, f)
 
@@ -55,12 +54,12 @@ module _ (d : Draft) (n : ℕ) (a : Bool) (e : a ≡ one_said d n City) where
     address_lines h r i = i ∙ rw (← e, f, ← g, h)
 
 -- ---- the address of a holder
-module _ (d : Draft) (n : ℕ) (x : Found) (e : x ≡ only_kid d n Addr) where
-  pub address_none : x ≡ Nothing → false ≡ address_holds d n
+module _ (d : Draft) (n : ℕ) (x : Option ℕ) (e : x ≡ only_kid d n Addr) where
+  pub address_none : x ≡ None → false ≡ address_holds d n
   unfolding address_holds
   address_none f = rw (← e, f)
 
-  pub address_one : (k : ℕ) → x ≡ At k → (b : Bool) → b ≡ is_address d k → b ≡ address_holds d n
+  pub address_one : (k : ℕ) → x ≡ Some k → (b : Bool) → b ≡ is_address d k → b ≡ address_holds d n
   unfolding address_holds
   address_one k f b g = g ∙ rw (← e, f)
 
@@ -76,12 +75,12 @@ module _ (d : Draft) (n q : ℕ) (e : q ≡ role d n) where
   other_24 h = rw (← e, ne_eqb q Establishment (λ f. h (inl f)), ne_eqb q ContactParty (λ f. h (inr f)))
 
 -- ---- the country of an address
-module _ (d : Draft) (n : ℕ) (x : Found) (e : x ≡ only_kid d n Country) where
-  pub usa_none : x ≡ Nothing → false ≡ is_usa d n
+module _ (d : Draft) (n : ℕ) (x : Option ℕ) (e : x ≡ only_kid d n Country) where
+  pub usa_none : x ≡ None → false ≡ is_usa d n
   unfolding is_usa
   usa_none f = rw (← e, f)
 
-  pub usa_one : (k : ℕ) → x ≡ At k → (b : Bool) → b ≡ equal (said d k) (text "USA") → b ≡ is_usa d n
+  pub usa_one : (k : ℕ) → x ≡ Some k → (b : Bool) → b ≡ equal (said d k) (text "USA") → b ≡ is_usa d n
   unfolding is_usa
   usa_one k f b g = g ∙ rw (← e, f)
 
@@ -102,7 +101,7 @@ asked_last h t i false e = ap (λ u. h and u) (and_false t) ∙ and_false h
 in_order_25 : (d : Draft) (n : ℕ) → breaks25 d n ≡ (is d Addr n and (is_usa d n and not (one_said d n State and one_said d n PostalCode)) and is_the (only_kid d (parent d n) Addr) n and is_address d n)
 unfolding breaks25 address_holds
 in_order_25 d n =
-    let x : Found = only_kid d (parent d n) Addr in
+    let x : Option ℕ = only_kid d (parent d n) Addr in
     ap (λ u. is d Addr n and u)
     (asked_last (address_holds d (parent d n)) (is_the x n) (is_the x n and is_address d n) (is_usa d n and not (one_said d n State and one_said d n PostalCode)) (the_has x n (is_address d)))
 

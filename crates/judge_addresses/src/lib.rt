@@ -4,36 +4,35 @@
 ghost use Rattle.std.specs.Prelude.{◌≡◌};
 ghost use Rattle.text_scan.specs.Choice.{◌and◌};
 ghost use Rattle.judge_paths.specs.Roles.{State, PostalCode};
-ghost use Rattle.judge_draft.specs.Drafts.{draft};
+ghost use Rattle.judge_draft.specs.Drafts.{lent};
 ghost use Rattle.judge_addresses.specs.Addresses.{one_said, lines_said, is_address, address_holds, breaks24, is_usa, breaks25};
 
 use judge_below::{Wanted, is_only_kid, none, only_kid};
-use judge_draft::{is_role, parent, role_at, text_is};
+use judge_draft::Draft;
 use judge_organisations::is_said;
 use judge_paths::role;
 use judge_tests::Test;
-use text_scan::Found;
 
 // Whether element n has one child of this role, and that has a text.
-pub fn one_said(document: &[u8], notes: &[u32], n: usize, role: u32) -> bool
-    ensures { result ≡ one_said (draft document.now notes.now) n role }
+pub fn one_said(draft: Draft, n: usize, role: u32) -> bool
+    ensures { result ≡ one_said (lent draft.entry) n role }
 {
-    let Found::At(k) = only_kid(document, notes, n, role) else {
+    let Some(k) = only_kid(draft, n, role) else {
         return false;
     };
-    is_said(document, notes, k)
+    is_said(draft, k)
 }
 
 // Whether address a has lines, and each has a text.
-fn lines_said(document: &[u8], notes: &[u32], a: usize) -> bool
-    ensures { result ≡ lines_said (draft document.now notes.now) a }
+fn lines_said(draft: Draft, a: usize) -> bool
+    ensures { result ≡ lines_said (lent draft.entry) a }
 {
     let line = Wanted {
         role: role::STREET_ADDRESS_LINE,
         levels: 1,
         test: Test::Any,
     };
-    if none(document, notes, line, a) {
+    if none(draft, line, a) {
         return false;
     }
     let empty = Wanted {
@@ -41,79 +40,79 @@ fn lines_said(document: &[u8], notes: &[u32], a: usize) -> bool
         levels: 1,
         test: Test::Empty,
     };
-    none(document, notes, empty, a)
+    none(draft, empty, a)
 }
 
 // Whether address a has what 24 demands of it.
-fn is_address(document: &[u8], notes: &[u32], a: usize) -> bool
-    ensures { result ≡ is_address (draft document.now notes.now) a }
+fn is_address(draft: Draft, a: usize) -> bool
+    ensures { result ≡ is_address (lent draft.entry) a }
 {
-    if !one_said(document, notes, a, role::CITY) {
+    if !one_said(draft, a, role::CITY) {
         return false;
     }
-    if !one_said(document, notes, a, role::COUNTRY) {
+    if !one_said(draft, a, role::COUNTRY) {
         return false;
     }
-    lines_said(document, notes, a)
+    lines_said(draft, a)
 }
 
 // Whether 24 holds of element n, which is a contactParty or an establishment.
-pub fn address_holds(document: &[u8], notes: &[u32], n: usize) -> bool
-    ensures { result ≡ address_holds (draft document.now notes.now) n }
+pub fn address_holds(draft: Draft, n: usize) -> bool
+    ensures { result ≡ address_holds (lent draft.entry) n }
 {
-    let Found::At(a) = only_kid(document, notes, n, role::ADDR) else {
+    let Some(a) = only_kid(draft, n, role::ADDR) else {
         return false;
     };
-    is_address(document, notes, a)
+    is_address(draft, a)
 }
 
 // Whether 24 is broken at element n.
-pub fn breaks_24(document: &[u8], notes: &[u32], n: usize) -> bool
-    ensures { result ≡ breaks24 (draft document.now notes.now) n }
+pub fn breaks_24(draft: Draft, n: usize) -> bool
+    ensures { result ≡ breaks24 (lent draft.entry) n }
 {
-    match role_at(document, notes, n) {
-        role::ESTABLISHMENT | role::CONTACT_PARTY => !address_holds(document, notes, n),
+    match draft.role_at(n) {
+        role::ESTABLISHMENT | role::CONTACT_PARTY => !address_holds(draft, n),
         _ => false,
     }
 }
 
 // Whether the country of address a is the USA.
-pub fn is_usa(document: &[u8], notes: &[u32], a: usize) -> bool
-    ensures { result ≡ is_usa (draft document.now notes.now) a }
+pub fn is_usa(draft: Draft, a: usize) -> bool
+    ensures { result ≡ is_usa (lent draft.entry) a }
 {
-    let Found::At(k) = only_kid(document, notes, a, role::COUNTRY) else {
+    let Some(k) = only_kid(draft, a, role::COUNTRY) else {
         return false;
     };
-    text_is(document, notes, k, b"USA")
+    draft.text_is(k, b"USA")
 }
 
 // Whether address a has a state and a postal code, each with a text.
-fn in_state(document: &[u8], notes: &[u32], a: usize) -> bool
-    ensures { result ≡ (one_said (draft document.now notes.now) a State and one_said (draft document.now notes.now) a PostalCode) }
+fn in_state(draft: Draft, a: usize) -> bool
+    ensures { result ≡ (one_said (lent draft.entry) a State and one_said (lent draft.entry) a PostalCode) }
 {
-    if one_said(document, notes, a, role::STATE) {
-        return one_said(document, notes, a, role::POSTAL_CODE);
+    if one_said(draft, a, role::STATE) {
+        return one_said(draft, a, role::POSTAL_CODE);
     }
     false
 }
 
 // Whether 25 is broken at element n.
 // The country and the state mostly decide; whether 24 holds is the dearest question and seldom needed, so it is asked last.
-pub fn breaks_25(document: &[u8], notes: &[u32], n: usize) -> bool
-    ensures { result ≡ breaks25 (draft document.now notes.now) n }
+pub fn breaks_25(draft: Draft, n: usize) -> bool
+    ensures { result ≡ breaks25 (lent draft.entry) n }
 {
-    if !is_role(document, notes, n, role::ADDR) {
+    if !draft.is_role(n, role::ADDR) {
         return false;
     }
-    if !is_usa(document, notes, n) {
+    if !is_usa(draft, n) {
         return false;
     }
-    if in_state(document, notes, n) {
+    if in_state(draft, n) {
         return false;
     }
-    let holder = parent(document, notes, n);
-    if !is_only_kid(document, notes, holder, role::ADDR, n) {
+    let holder = draft.parent(n);
+    if !is_only_kid(draft, holder, role::ADDR, n) {
         return false;
     }
-    is_address(document, notes, n)
+    is_address(draft, n)
 }

@@ -9,7 +9,7 @@ use native.Mathlib.Omega.{arith}
 use borrow.Author.Tests.{le-leb, lt-leb, eq-eqb, ne_eqb, eqb-true, ltb-true}
 use lib.Dec.{eqb, ltb}
 use lib.ListN.{length, take, drop}
-use Rattle.text_scan.specs.Choice.{pick, ◌and◌}
+use Rattle.text_scan.specs.Choice.{pick}
 use Rattle.text_scan.specs.Bytes.{text}
 use Rattle.text_scan.proofs.Tests.{and_left, and_right}
 use Rattle.table_index.specs.declared.Lookup.TheVariants.{KeyElsewhere}

@@ -6,12 +6,12 @@ ghost use Rattle.text_scan.specs.Choice.{pick};
 ghost use Rattle.text_scan.specs.Bytes.{text};
 ghost use Rattle.table_lines.specs.Lines.{rows_at};
 ghost use Rattle.table_rows.specs.Rows.{some_row, is_key_elsewhere, is_other_key};
-ghost use Rattle.judge_draft.specs.Drafts.{draft, attribute};
+ghost use Rattle.judge_draft.specs.Drafts.{lent, attribute};
 ghost use Rattle.judge_header.specs.Header.{request_code};
 ghost use Rattle.judge_answers.specs.Answers.{type_code, tables_at, is_broken};
 ghost use Rattle.judge_answers.specs.Served.{run_of, type_number, is_told, KeysServed, KeysTold, Served};
 
-use judge_draft::{Demand, first_byte};
+use judge_draft::{Demand, Draft};
 use judge_paths::DocumentType;
 use table_sets::Keys;
 use xml_reader::Reader;
@@ -76,8 +76,7 @@ fn keys_of(keys: &[u32], places: Places, kind: DocumentType, s: usize) -> &[u32]
 // Whether a row of the history of a type has the key of id k under another set id than that of s. It is looked up where the run is for this type and
 // setId.
 fn has_key_elsewhere(
-    document: &[u8],
-    notes: &[u32],
+    draft: Draft,
     tables: &[u8],
     places: Places,
     keys: &[u32],
@@ -85,23 +84,44 @@ fn has_key_elsewhere(
     k: usize,
     s: usize,
 ) -> bool
-    requires { KeysServed (type_code places.kind) (attribute (draft document.now notes.now) places.set (text "root")) tables.now places keys.now }
-    ensures { result ≡ some_row (is_key_elsewhere (type_code kind) (attribute (draft document.now notes.now) k (text "extension")) (attribute (draft document.now notes.now) s (text "root"))) (rows_at tables.now places.history places.nhistory) }
+    requires { KeysServed (type_code places.kind) (attribute (lent draft) places.set (text "root")) tables.now places keys.now }
+    ensures { result ≡ some_row (is_key_elsewhere (type_code kind) (attribute (lent draft.entry) k (text "extension")) (attribute (lent draft.entry) s (text "root"))) (rows_at tables.now places.history places.nhistory) }
 {
     let own = keys_of(keys, places, kind, s);
-    let at = first_byte(document, notes, k);
-    let set = first_byte(document, notes, s);
+    let at = draft.first_byte(k);
+    let set = draft.first_byte(s);
     let from = places.history;
     let count = places.nhistory;
     match kind {
         DocumentType::Neither => judge_history::has_key_elsewhere(
-            document, at, set, tables, from, count, own, b"",
+            draft.document,
+            at,
+            set,
+            tables,
+            from,
+            count,
+            own,
+            b"",
         ),
         DocumentType::Registration => judge_history::has_key_elsewhere(
-            document, at, set, tables, from, count, own, b"51725-0",
+            draft.document,
+            at,
+            set,
+            tables,
+            from,
+            count,
+            own,
+            b"51725-0",
         ),
         DocumentType::Request => judge_history::has_key_elsewhere(
-            document, at, set, tables, from, count, own, b"51726-8",
+            draft.document,
+            at,
+            set,
+            tables,
+            from,
+            count,
+            own,
+            b"51726-8",
         ),
     }
 }
@@ -118,26 +138,25 @@ fn is_told(keys: &[u32], places: Places, s: usize) -> bool
 
 // Whether a row of the history of a request with the set id of s has another key than that of id k.
 fn has_other_key(
-    document: &[u8],
-    notes: &[u32],
+    draft: Draft,
     tables: &[u8],
     places: Places,
     keys: &[u32],
     k: usize,
     s: usize,
 ) -> bool
-    requires { KeysTold (attribute (draft document.now notes.now) places.set (text "root")) tables.now places keys.now }
-    ensures { result ≡ some_row (is_other_key request_code (attribute (draft document.now notes.now) s (text "root")) (attribute (draft document.now notes.now) k (text "extension"))) (rows_at tables.now places.history places.nhistory) }
+    requires { KeysTold (attribute (lent draft) places.set (text "root")) tables.now places keys.now }
+    ensures { result ≡ some_row (is_other_key request_code (attribute (lent draft.entry) s (text "root")) (attribute (lent draft.entry) k (text "extension"))) (rows_at tables.now places.history places.nhistory) }
 {
     let known = is_told(keys, places, s);
-    let at = first_byte(document, notes, k);
-    let set = first_byte(document, notes, s);
+    let at = draft.first_byte(k);
+    let set = draft.first_byte(s);
     let told = Keys {
         first: places.first,
         several: places.several,
     };
     judge_history::has_other_key(
-        document,
+        draft.document,
         at,
         set,
         tables,
@@ -150,55 +169,47 @@ fn has_other_key(
 
 // Whether a row of the code list or the register, which is demanded, is missing, or a row of the history is there that must not be: the demand is
 // broken under the tables.
-pub fn is_broken(
-    document: &[u8],
-    notes: &[u32],
-    tables: &[u8],
-    places: Places,
-    index: &[u32],
-    demand: Demand,
-) -> bool
-    requires { Served (draft document.now notes.now) tables.now places index.now }
-    ensures { result ≡ is_broken (draft document.now notes.now) (tables_at tables.now places) demand }
+pub fn is_broken(draft: Draft, tables: &[u8], places: Places, index: &[u32], demand: Demand) -> bool
+    requires { Served (lent draft) tables.now places index.now }
+    ensures { result ≡ is_broken (lent draft.entry) (tables_at tables.now places) demand }
 {
     match demand {
         Demand::Nothing => false,
         Demand::Broken => true,
         Demand::CodeRow(k) => !judge_rows::has_code(
-            document,
-            first_byte(document, notes, k),
+            draft.document,
+            draft.first_byte(k),
             tables,
             places.codes,
             places.ncodes,
             part(index, 0),
         ),
         Demand::NameRow(i, k) => !judge_rows::has_name(
-            document,
-            first_byte(document, notes, i),
-            first_byte(document, notes, k),
+            draft.document,
+            draft.first_byte(i),
+            draft.first_byte(k),
             tables,
             places.names,
             places.nnames,
             part(index, 1),
         ),
         Demand::NoDocument(k) => judge_history::has_document(
-            document,
-            first_byte(document, notes, k),
+            draft.document,
+            draft.first_byte(k),
             tables,
             places.history,
             places.nhistory,
         ),
         Demand::NoVersion(s, k) => judge_history::has_version(
-            document,
-            first_byte(document, notes, s),
-            first_byte(document, notes, k),
+            draft.document,
+            draft.first_byte(s),
+            draft.first_byte(k),
             tables,
             places.history,
             places.nhistory,
         ),
         Demand::NoKeyElsewhere(kind, k, s) => has_key_elsewhere(
-            document,
-            notes,
+            draft,
             tables,
             places,
             part(index, 2),
@@ -206,14 +217,6 @@ pub fn is_broken(
             k,
             s,
         ),
-        Demand::NoOtherKey(k, s) => has_other_key(
-            document,
-            notes,
-            tables,
-            places,
-            part(index, 2),
-            k,
-            s,
-        ),
+        Demand::NoOtherKey(k, s) => has_other_key(draft, tables, places, part(index, 2), k, s),
     }
 }

@@ -1,22 +1,21 @@
 -- An element of which nothing but 3 and 4 is asked has no mark where 3 holds.
 -- Assumes nothing.
-use mathlib.Core.Path.{◌≡◌, refl, sym, ◌∙◌, ap}
+use mathlib.Core.Path.{◌≡◌, sym, ◌∙◌}
 use mathlib.Core.Bool.{Bool, true, false}
-use mathlib.Core.List.{List, [], ◌∷◌}
+use mathlib.Core.List.{[], ◌∷◌}
 use mathlib.Core.Logic.{◌⊎◌, inl, inr}
 use Prim.Native.Nat.{ℕ}
 use borrow.Author.Tests.{eq-eqb}
 use lib.Dec.{eqb}
-use Rattle.text_scan.specs.Choice.{◌or◌}
 use Rattle.text_scan.proofs.Tests.{never, or_true}
 use Rattle.table_file.specs.Accepted.{Tables}
 use Rattle.judge_paths.specs.Roles.{Id, Code, OrganisationId, OperationCode}
 use Rattle.judge_paths.specs.Attributes.{is_role}
 use Rattle.judge_draft.specs.Drafts.{Draft, role}
 use Rattle.judge_header.specs.declared.Header.{Header}
-use Rattle.judge_listed.specs.Listed.{breaks3, breaks4}
+use Rattle.judge_listed.specs.Listed.{breaks3}
 use Rattle.judge_listed.proofs.Spaces.{no_space}
-use Rattle.judge_procedures.specs.Procedures.{with_number, demand_in, demand_of, asked_at}
+use Rattle.judge_procedures.specs.Procedures.{with_number, demand_in, demand_of}
 use Rattle.judge_answers.specs.Answers.{is_broken}
 use Rattle.judge_findings.specs.Listed.{broken}
 use Rattle.judge_asked.specs.Asked.{plain_roles}

@@ -5,7 +5,7 @@ ghost use Rattle.std.specs.Prelude.{◌≡◌, ◌/◌, ◌≤◌, eqb, length};
 ghost use Rattle.std.proofs.lemmas.List.Edits.{sets};
 ghost use Rattle.text_scan.specs.Choice.{◌and◌};
 ghost use Rattle.xml_reader.specs.Limits.{elements_limit};
-ghost use Rattle.judge_draft.specs.Drafts.{draft};
+ghost use Rattle.judge_draft.specs.Drafts.{lent};
 ghost use Rattle.judge_listed.specs.Listed.{breaks3};
 ghost use Rattle.judge_operations.specs.Operations.{has_establishment};
 ghost use Rattle.judge_answers.specs.Answers.{tables_at};
@@ -15,6 +15,7 @@ ghost use Rattle.judge_marks.specs.Marks.{mark_of, marks_of};
 
 use judge_answers::{Places, is_broken};
 use judge_asked::{MOST, asked_row, is_plain};
+use judge_draft::Draft;
 use judge_header::Header;
 use judge_marks::push;
 use judge_procedures::{Met, demand};
@@ -23,16 +24,12 @@ use judge_procedures::{Met, demand};
 fn is_behind(p: u32, m: u64) -> bool
     ensures { result ≡ eqb p 0 and eqb m 0 }
 {
-    if p == 0 {
-        return m == 0;
-    }
-    false
+    p == 0 && m == 0
 }
 
 // The mark of element n: the procedures that can be found at it, asked from the last to the first.
 fn mark(
-    document: &[u8],
-    notes: &[u32],
+    draft: Draft,
     header: Header,
     tables: &[u8],
     places: Places,
@@ -40,20 +37,18 @@ fn mark(
     met: Met,
     n: usize,
 ) -> u64
-    requires { (met.held ≡ has_establishment (draft document.now notes.now) met.entity) × (met.three ≡ breaks3 (draft document.now notes.now) n) × Served (draft document.now notes.now) tables.now places index.now }
-    ensures { result ≡ mark_of (draft document.now notes.now) (broken (draft document.now notes.now) header (tables_at tables.now places)) n }
+    requires { (met.held ≡ has_establishment (lent draft) met.entity) × (met.three ≡ breaks3 (lent draft) n) × Served (lent draft) tables.now places index.now }
+    ensures { result ≡ mark_of (lent draft.entry) (broken (lent draft.entry) header (tables_at tables.now places)) n }
 {
-    let row = asked_row(judge_draft::role_at(document, notes, n));
-    let mut i = MOST;
+    let row = asked_row(draft.role_at(n));
     let mut m = 0;
-    while 0 < i {
-        i -= 1;
+    for i in (0..MOST).rev() {
         let p = row[i] as u32;
         if is_behind(p, m) {
             continue;
         }
-        let demanded = demand(document, notes, header, met, p, n);
-        let broken = is_broken(document, notes, tables, places, index, demanded);
+        let demanded = demand(draft, header, met, p, n);
+        let broken = is_broken(draft, tables, places, index, demanded);
         m = push(m, broken);
     }
     m
@@ -61,8 +56,7 @@ fn mark(
 
 // The same: 0 at once where nothing but 3 and 4 can be found, and neither is broken.
 fn mark_at(
-    document: &[u8],
-    notes: &[u32],
+    draft: Draft,
     header: Header,
     tables: &[u8],
     places: Places,
@@ -70,57 +64,53 @@ fn mark_at(
     met: Met,
     n: usize,
 ) -> u64
-    requires { (met.held ≡ has_establishment (draft document.now notes.now) met.entity) × (met.three ≡ breaks3 (draft document.now notes.now) n) × Served (draft document.now notes.now) tables.now places index.now }
-    ensures { result ≡ mark_of (draft document.now notes.now) (broken (draft document.now notes.now) header (tables_at tables.now places)) n }
+    requires { (met.held ≡ has_establishment (lent draft) met.entity) × (met.three ≡ breaks3 (lent draft) n) × Served (lent draft) tables.now places index.now }
+    ensures { result ≡ mark_of (lent draft.entry) (broken (lent draft.entry) header (tables_at tables.now places)) n }
 {
     if met.three {
-        return mark(document, notes, header, tables, places, index, met, n);
+        return mark(draft, header, tables, places, index, met, n);
     }
-    if is_plain(judge_draft::role_at(document, notes, n)) {
+    if is_plain(draft.role_at(n)) {
         return 0;
     }
-    mark(document, notes, header, tables, places, index, met, n)
+    mark(draft, header, tables, places, index, met, n)
 }
 
 // Stores the marks of all elements from the front of a run, and answers how many findings they tell of.
 pub fn fill(
-    document: &[u8],
-    notes: &[u32],
+    draft: Draft,
     header: Header,
     tables: &[u8],
     places: Places,
     index: &[u32],
     marks: &mut [u64],
 ) -> usize
-    requires { (length notes.now / 4 ≤ length marks.old) × (length marks.old ≤ elements_limit) × Served (draft document.now notes.now) tables.now places index.now }
-    ensures { (result ≡ length (listed (draft document.now notes.now) (broken (draft document.now notes.now) header (tables_at tables.now places)))) × (marks.new ≡ sets marks.old 0 (marks_of (draft document.now notes.now) (broken (draft document.now notes.now) header (tables_at tables.now places)) 0 (length notes.now / 4))) }
+    requires { (length draft.notes.now / 4 ≤ length marks.old) × (length marks.old ≤ elements_limit) × Served (lent draft) tables.now places index.now }
+    ensures { (result ≡ length (listed (lent draft.entry) (broken (lent draft.entry) header (tables_at tables.now places)))) × (marks.new ≡ sets marks.old 0 (marks_of (lent draft.entry) (broken (lent draft.entry) header (tables_at tables.now places)) 0 (length draft.entry.notes.now / 4))) }
 {
-    let mut n = 0;
     let mut total = 0;
     let mut entity = 0;
-    let mut held = judge_operations::has_establishment(document, notes, 0);
-    while n < notes.len() / 4 {
-        let at = judge_operations::entity_at(document, notes, entity, n);
-        held = judge_operations::held_at(document, notes, entity, held, at);
+    let mut held = judge_operations::has_establishment(draft, 0);
+    for n in 0..draft.notes.len() / 4 {
+        let at = judge_operations::entity_at(draft, entity, n);
+        held = judge_operations::held_at(draft, entity, held, at);
         entity = at;
-        let three = judge_listed::breaks_3(document, notes, n);
+        let three = judge_listed::breaks_3(draft, n);
         let m = mark_at(
-            document,
-            notes,
+            draft,
             header,
             tables,
             places,
             index,
             Met {
-                entity: entity,
-                held: held,
-                three: three,
+                entity,
+                held,
+                three,
             },
             n,
         );
         marks[n] = m;
         total += judge_marks::how_many(m);
-        n += 1;
     }
     total
 }

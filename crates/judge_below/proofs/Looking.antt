@@ -1,6 +1,7 @@
 -- The elements that are looked for below an element, by the branches of the loops over them: from one number to the next, up to the first
 -- that starts at or behind the end of the element.
 -- Assumes nothing.
+use Rattle.std.specs.Prelude.{Option, None, Some, ℕ}
 use mathlib.Core.Path.{◌≡◌, refl, sym, ◌∙◌, ap}
 use mathlib.Core.Bool.{Bool, true, false}
 use mathlib.Core.List.{List, [], ◌∷◌}
@@ -13,8 +14,6 @@ use mir.Val.{Fits}
 use mir.Syntax.{w64}
 use Rattle.text_scan.specs.Choice.{pick, ◌and◌, not}
 use Rattle.text_scan.proofs.Tests.{and_false}
-use Rattle.text_scan.specs.declared.Found.{Found}
-use Rattle.text_scan.specs.declared.Found.TheVariants.{At, Nothing}
 use Rattle.judge_below.specs.declared.Wanted.{Wanted}
 use Rattle.judge_draft.specs.Below.{ancestor_in}
 use Rattle.judge_draft.specs.Searched.{within, searched_from, searched}
@@ -25,17 +24,22 @@ use Rattle.judge_below.specs.Searching.{passes_below, chosen_from}
 
 -- ---- an ancestor, by the branches of its loop
 module _ (d : Draft) (levels k at : ℕ) where
-  pub up : (left : ℕ) → ancestor d levels k ≡ ancestor d left at → 0 < left → (p : ℕ) → p ≡ parent d at → ancestor d levels k ≡ ancestor d (left - 1) p
-  unfolding ancestor_in
-  up zero l h p q = absurd (omega arith)
-  up (suc left) l h p q =
-      let z : suc left - 1 ≡ left = omega arith in
-      l ∙ rw (z, ← q)
+  pub not_up : k ≡ at → ancestor d levels k ≡ ancestor d (levels - 0) at
+  not_up e =
+      let z : levels - 0 ≡ levels = omega arith in
+      rw (z, e)
 
-  pub here : (left : ℕ) → ancestor d levels k ≡ ancestor d left at → left ≤ 0 → at ≡ ancestor d levels k
+  pub up : (i : ℕ) → ancestor d levels k ≡ ancestor d (levels - i) at → i < levels → (p : ℕ) → p ≡ parent d at → ancestor d levels k ≡ ancestor d (levels - (i + 1)) p
   unfolding ancestor_in
-  here zero l h = sym l
-  here (suc left) l h = absurd (omega arith)
+  up i l h p q =
+      let z : levels - i ≡ suc (levels - (i + 1)) = omega arith in
+      l ∙ rw (z, q)
+
+  pub here : (i : ℕ) → ancestor d levels k ≡ ancestor d (levels - i) at → levels ≤ i → at ≡ ancestor d levels k
+  unfolding ancestor_in
+  here i l h =
+      let z : levels - i ≡ 0 = omega arith in
+      sym (l ∙ rw z)
 
 -- ---- whether an element is looked for
 module _ (d : Draft) (w : Wanted) (n k : ℕ) where
@@ -100,7 +104,7 @@ module _ (s notes : List ℕ) (w : Wanted) (n : ℕ) where
   its_chosen = refl
 
   module _ (from k : ℕ) (l : Next (draft s notes) w n from k) where
-    pub next_ends : length notes / 4 ≤ k → Nothing ≡ first_one (chosen_from (draft s notes) w n from)
+    pub next_ends : length notes / 4 ≤ k → None ≡ first_one (chosen_from (draft s notes) w n from)
     next_ends h = sym (l ∙ rw (no_more (draft s notes) w n k (omega (arith, its_count))))
 
   -- ---- how many
@@ -135,7 +139,7 @@ module _ (s notes : List ℕ) (w : Wanted) (n : ℕ) where
         later : wants (draft s notes) w n k ≡ false → chosen_from (draft s notes) w n k ≡ chosen_from (draft s notes) w n (k + 1)
         later = is_later (draft s notes) w n k (omega (arith, its_count)) (omega (arith, p, its_first))
 
-    pub next_over : (from k : ℕ) → Next (draft s notes) w n from k → k < length notes / 4 → end ≤ get_or notes (4 * k + 2) 0 → Nothing ≡ first_one (chosen_from (draft s notes) w n from)
+    pub next_over : (from k : ℕ) → Next (draft s notes) w n from k → k < length notes / 4 → end ≤ get_or notes (4 * k + 2) 0 → None ≡ first_one (chosen_from (draft s notes) w n from)
     next_over from k l h g = sym (l ∙ rw (over k h g))
 
     pub counted_over : (found k : ℕ) → Counted found k → k < length notes / 4 → end ≤ get_or notes (4 * k + 2) 0 → found ≡ length (chosen (draft s notes) w n)
@@ -156,7 +160,7 @@ module _ (s notes : List ℕ) (w : Wanted) (n : ℕ) where
         next_other i = l ∙ rw (later k h g (other_role k i))
 
         module _ (i : get_or notes (4 * k) 0 ≡ y) (r : Bool) (u : r ≡ passes_below (draft s notes) w n k) where
-          pub next_is : r ≡ true → At k ≡ first_one (chosen_from (draft s notes) w n from)
+          pub next_is : r ≡ true → Some k ≡ first_one (chosen_from (draft s notes) w n from)
           next_is v = sym (l ∙ rw (one_more k h g (its_role k i ∙ sym u ∙ v)))
 
           pub next_misses : r ≡ false → Next (draft s notes) w n from (k + 1)
@@ -180,7 +184,7 @@ module _ (s notes : List ℕ) (w : Wanted) (n : ℕ) where
   empty_past : length notes ≤ n → chosen (draft s notes) w n ≡ []
   empty_past h = its_chosen ∙ no_more (draft s notes) w n (n + 1) (omega (arith, its_count))
 
-  pub only_past : length notes ≤ n → Nothing ≡ only_one (chosen (draft s notes) w n)
+  pub only_past : length notes ≤ n → None ≡ only_one (chosen (draft s notes) w n)
   only_past h = rw (empty_past h)
 
   pub none_past : length notes ≤ n → true ≡ is_empty (chosen (draft s notes) w n)
@@ -194,10 +198,10 @@ not_empty : (x : ℕ) (l : List ℕ) → is_empty (x ∷ l) ≡ false
 not_empty x l = ne_eqb (length (x ∷ l)) 0 (λ h. omega arith)
 
 module _ (d : Draft) (w : Wanted) (n : ℕ) where
-  none_first : (k : ℕ) → first_one (chosen_from d w n k) ≡ Nothing → chosen_from d w n k ≡ []
+  none_first : (k : ℕ) → first_one (chosen_from d w n k) ≡ None → chosen_from d w n k ≡ []
   none_first k e = go (chosen_from d w n k) e
     where
-      go : (l : List ℕ) → first_one l ≡ Nothing → l ≡ []
+      go : (l : List ℕ) → first_one l ≡ None → l ≡ []
       go [] e = refl
       go (x ∷ xs) e = absurd (let z : ◌≡◌ {A = ℕ} 0 1 = cc in omega arith)
 
@@ -205,15 +209,15 @@ module _ (d : Draft) (w : Wanted) (n : ℕ) where
   abbrev First : ℕ → List ℕ → Type 0
   First r l = (r < element_count d) × (l ≡ r ∷ chosen_from d w n (r + 1))
 
-  nothing_first : {A : Type 0} (r : ℕ) → Nothing ≡ At r → A
+  nothing_first : {A : Type 0} (r : ℕ) → None ≡ Some r → A
   nothing_first r e = absurd (let z : ◌≡◌ {A = ℕ} 0 1 = cc in omega arith)
 
-  first_one_lem : (m k r : ℕ) → k + m ≡ element_count d → first_one (rest d w n k m) ≡ At r → First r (rest d w n k m)
+  first_one_lem : (m k r : ℕ) → k + m ≡ element_count d → first_one (rest d w n k m) ≡ Some r → First r (rest d w n k m)
   unfolding within chosen_from searched_from
   first_one_lem zero k r h e = nothing_first r e
   first_one_lem (suc m) k r h e = go (ltb (first d k) (after d n)) (wants d w n k) e (first_one_lem m (k + 1) r (omega arith))
     where
-      go : (i t : Bool) → first_one (pick i (pick t (k ∷ rest d w n (k + 1) m) (rest d w n (k + 1) m)) []) ≡ At r → (first_one (rest d w n (k + 1) m) ≡ At r → First r (rest d w n (k + 1) m)) → First r (pick i (pick t (k ∷ rest d w n (k + 1) m) (rest d w n (k + 1) m)) [])
+      go : (i t : Bool) → first_one (pick i (pick t (k ∷ rest d w n (k + 1) m) (rest d w n (k + 1) m)) []) ≡ Some r → (first_one (rest d w n (k + 1) m) ≡ Some r → First r (rest d w n (k + 1) m)) → First r (pick i (pick t (k ∷ rest d w n (k + 1) m) (rest d w n (k + 1) m)) [])
       go true true e f =
           let q : k ≡ r = cc in
           let a : m ≡ element_count d - (r + 1) = omega arith in
@@ -221,7 +225,7 @@ module _ (d : Draft) (w : Wanted) (n : ℕ) where
       go true false e f = f e
       go false t e f = nothing_first r e
 
-  at_first : (i k : ℕ) → first_one (chosen_from d w n i) ≡ At k → First k (chosen_from d w n i)
+  at_first : (i k : ℕ) → first_one (chosen_from d w n i) ≡ Some k → First k (chosen_from d w n i)
   unfolding chosen_from searched_from
   at_first i k e = go (ltb i (element_count d)) refl
     where
@@ -233,28 +237,28 @@ module _ (s notes : List ℕ) (w : Wanted) (n : ℕ) where
   abbrev its : Draft
   its = draft s notes
 
-  module _ (x : Found) (f : x ≡ first_one (chosen_from its w n (n + 1))) where
-    all_none : x ≡ Nothing → chosen its w n ≡ []
+  module _ (x : Option ℕ) (f : x ≡ first_one (chosen_from its w n (n + 1))) where
+    all_none : x ≡ None → chosen its w n ≡ []
     all_none e = its_chosen s notes w n ∙ none_first its w n (n + 1) (sym f ∙ e)
 
-    all_first : (k : ℕ) → x ≡ At k → chosen its w n ≡ k ∷ chosen_from its w n (k + 1)
+    all_first : (k : ℕ) → x ≡ Some k → chosen its w n ≡ k ∷ chosen_from its w n (k + 1)
     all_first k e = its_chosen s notes w n ∙ (at_first its w n (n + 1) k (sym f ∙ e)).1
 
-    pub only_none : x ≡ Nothing → Nothing ≡ only_one (chosen its w n)
+    pub only_none : x ≡ None → None ≡ only_one (chosen its w n)
     only_none e = rw (all_none e)
 
-    pub none_below : x ≡ Nothing → true ≡ is_empty (chosen its w n)
+    pub none_below : x ≡ None → true ≡ is_empty (chosen its w n)
     none_below e = rw (all_none e)
 
-    module _ (k : ℕ) (e : x ≡ At k) where
+    module _ (k : ℕ) (e : x ≡ Some k) where
       pub some_below : false ≡ is_empty (chosen its w n)
       some_below = rw (all_first k e, not_empty k (chosen_from its w n (k + 1)))
 
-      module _ (y : Found) (g : y ≡ first_one (chosen_from its w n (k + 1))) where
-        pub only_is : y ≡ Nothing → At k ≡ only_one (chosen its w n)
+      module _ (y : Option ℕ) (g : y ≡ first_one (chosen_from its w n (k + 1))) where
+        pub only_is : y ≡ None → Some k ≡ only_one (chosen its w n)
         only_is h = rw (all_first k e, none_first its w n (k + 1) (sym g ∙ h))
 
-        pub only_more : (j : ℕ) → y ≡ At j → Nothing ≡ only_one (chosen its w n)
+        pub only_more : (j : ℕ) → y ≡ Some j → None ≡ only_one (chosen its w n)
         only_more j h = rw (all_first k e, (at_first its w n (k + 1) j (sym g ∙ h)).1)
 
 -- ---- an element that may be the only one
@@ -264,11 +268,11 @@ the_first r k [] h = sym (ne_eqb r k h)
 the_first r k (x ∷ l) h = refl
 
 module _ (d : Draft) (w : Wanted) (n k : ℕ) where
-  module _ (y : Found) (g : y ≡ first_one (chosen_from d w n (k + 1))) where
-    pub not_followed : y ≡ Nothing → false ≡ not (is_empty (chosen_from d w n (k + 1)))
+  module _ (y : Option ℕ) (g : y ≡ first_one (chosen_from d w n (k + 1))) where
+    pub not_followed : y ≡ None → false ≡ not (is_empty (chosen_from d w n (k + 1)))
     not_followed h = rw (none_first d w n (k + 1) (sym g ∙ h))
 
-    pub followed : (j : ℕ) → y ≡ At j → true ≡ not (is_empty (chosen_from d w n (k + 1)))
+    pub followed : (j : ℕ) → y ≡ Some j → true ≡ not (is_empty (chosen_from d w n (k + 1)))
     followed j h = rw ((at_first d w n (k + 1) j (sym g ∙ h)).1, not_empty j (chosen_from d w n (j + 1)))
 
 module _ (s notes : List ℕ) (w : Wanted) (n k : ℕ) where
@@ -280,9 +284,9 @@ module _ (s notes : List ℕ) (w : Wanted) (n k : ℕ) where
     pub more_behind : a ≡ true → false ≡ is_the (only_one (chosen theirs w n)) k
     more_behind h = rw (its_chosen s notes w n) (go (first_one (chosen_from theirs w n (n + 1))) refl)
       where
-        go : (x : Found) → first_one (chosen_from theirs w n (n + 1)) ≡ x → false ≡ is_the (only_one (chosen_from theirs w n (n + 1))) k
-        go Nothing e = rw (none_first theirs w n (n + 1) e)
-        go (At r) e = rw (at_first theirs w n (n + 1) r e).1 (at (eqb r k) refl)
+        go : (x : Option ℕ) → first_one (chosen_from theirs w n (n + 1)) ≡ x → false ≡ is_the (only_one (chosen_from theirs w n (n + 1))) k
+        go None e = rw (none_first theirs w n (n + 1) e)
+        go (Some r) e = rw (at_first theirs w n (n + 1) r e).1 (at (eqb r k) refl)
           where
             at : (b : Bool) → eqb r k ≡ b → false ≡ is_the (only_one (r ∷ chosen_from theirs w n (r + 1))) k
             at true q = rw (eqb-true r k q) (some (chosen_from theirs w n (k + 1)) (sym g ∙ h))
@@ -294,11 +298,11 @@ module _ (s notes : List ℕ) (w : Wanted) (n k : ℕ) where
                 some (x ∷ l) z = refl
             at false q = the_first r k (chosen_from theirs w n (r + 1)) (eqb-false r k q)
 
-    module _ (h : a ≡ false) (x : Found) (f : x ≡ first_one (chosen_from theirs w n (n + 1))) where
-      pub none_at_all : x ≡ Nothing → false ≡ is_the (only_one (chosen theirs w n)) k
+    module _ (h : a ≡ false) (x : Option ℕ) (f : x ≡ first_one (chosen_from theirs w n (n + 1))) where
+      pub none_at_all : x ≡ None → false ≡ is_the (only_one (chosen theirs w n)) k
       none_at_all e = rw (all_none s notes w n x f e)
 
-      pub first_of_all : (r : ℕ) → x ≡ At r → eqb r k ≡ is_the (only_one (chosen theirs w n)) k
+      pub first_of_all : (r : ℕ) → x ≡ Some r → eqb r k ≡ is_the (only_one (chosen theirs w n)) k
       first_of_all r e = rw (all_first s notes w n x f r e) (at (eqb r k) refl)
         where
           at : (b : Bool) → eqb r k ≡ b → eqb r k ≡ is_the (only_one (r ∷ chosen_from theirs w n (r + 1))) k
@@ -318,5 +322,5 @@ module _ (s notes : List ℕ) (w : Wanted) (n k : ℕ) where
   pub element_past : length notes ≤ k → false ≡ not (is_empty (chosen_from (draft s notes) w n (k + 1)))
   element_past h = rw (no_more (draft s notes) w n (k + 1) (omega (arith, its_count s notes w n)))
 
-pub only_fits : (s notes : List ℕ) (w : Wanted) (n : ℕ) (x : Found) → x ≡ first_one (chosen_from (draft s notes) w n (n + 1)) → (k : ℕ) → x ≡ At k → length notes < 2 ^ 64 → Fits w64 (k + 1)
+pub only_fits : (s notes : List ℕ) (w : Wanted) (n : ℕ) (x : Option ℕ) → x ≡ first_one (chosen_from (draft s notes) w n (n + 1)) → (k : ℕ) → x ≡ Some k → length notes < 2 ^ 64 → Fits w64 (k + 1)
 only_fits s notes w n x f k e g = omega (arith, (at_first (draft s notes) w n (n + 1) k (sym f ∙ e)).0, its_count s notes w n)

@@ -1,5 +1,6 @@
 -- The only one of what is looked for: where n is it, what holds of the one holds of n, and n passes the test.
 -- Assumes nothing.
+use Rattle.std.specs.Prelude.{Option, None, Some, ℕ}
 use mathlib.Core.Path.{◌≡◌, refl, sym, ◌∙◌, ap}
 use mathlib.Core.Bool.{Bool, true, false}
 use mathlib.Core.List.{List, [], ◌∷◌}
@@ -9,8 +10,6 @@ use lib.Dec.{eqb, ltb}
 use lib.ListN.{length}
 use Rattle.text_scan.specs.Choice.{pick, ◌and◌}
 use Rattle.text_scan.proofs.Tests.{never, and_true, and_false, and_right}
-use Rattle.text_scan.specs.declared.Found.{Found}
-use Rattle.text_scan.specs.declared.Found.TheVariants.{At, Nothing}
 use Rattle.xml_steps.specs.Reading.{first_of, after_of}
 use Rattle.judge_draft.specs.Below.{ancestor_in}
 use Rattle.judge_draft.specs.Searched.{within, searched_from, searched}
@@ -20,17 +19,17 @@ use Rattle.judge_tests.specs.Passing.{passes}
 use Rattle.judge_below.specs.Chosen.{meets, chosen, only_one, one, one_has, is_the}
 
 -- "if it holds of the one, and n is that": it holds of n
-pub the_has : (x : Found) (n : ℕ) (p : ℕ → Bool) → (one_has x p and is_the x n) ≡ (is_the x n and p n)
-the_has Nothing n p = refl
-the_has (At k) n p = go (eqb k n) refl
+pub the_has : (x : Option ℕ) (n : ℕ) (p : ℕ → Bool) → (one_has x p and is_the x n) ≡ (is_the x n and p n)
+the_has None n p = refl
+the_has (Some k) n p = go (eqb k n) refl
   where
     go : (t : Bool) → eqb k n ≡ t → (p k and t) ≡ (t and p n)
     go true e = and_true (p k) ∙ ap p (eqb-true k n e)
     go false e = and_false (p k)
 
-pub the_one : (x : Found) (n : ℕ) → (one x and is_the x n) ≡ is_the x n
-the_one Nothing n = refl
-the_one (At k) n = refl
+pub the_one : (x : Option ℕ) (n : ℕ) → (one x and is_the x n) ≡ is_the x n
+the_one None n = refl
+the_one (Some k) n = refl
 
 -- ---- what is chosen passes the test
 module _ (s notes : List ℕ) (w : Wanted) (p : ℕ) where

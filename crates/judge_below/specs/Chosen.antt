@@ -1,9 +1,7 @@
 -- The elements below an element that a procedure counts: of a role, so many levels below it, that pass a test.
 -- Assumes nothing.
-use Rattle.std.specs.Prelude.{ℕ, Bool, true, false, List, [], ◌∷◌, eqb}
+use Rattle.std.specs.Prelude.{ℕ, Bool, true, false, List, [], ◌∷◌, eqb, Option, None, Some}
 use Rattle.text_scan.specs.Choice.{◌and◌}
-use Rattle.text_scan.specs.declared.Found.{Found}
-use Rattle.text_scan.specs.declared.Found.TheVariants.{At, Nothing}
 use Rattle.judge_tests.specs.declared.Test.{Test}
 use Rattle.judge_tests.specs.declared.Test.TheVariants.{Any}
 use Rattle.judge_tests.specs.Passing.{passes}
@@ -31,33 +29,33 @@ abbrev pub kids : Draft → ℕ → ℕ → List ℕ
 kids d n r = chosen d (wanted r 1 Any) n
 
 -- the first, and the only one
-abbrev pub first_one : List ℕ → Found
-first_one [] = Nothing
-first_one (k ∷ ks) = At k
+abbrev pub first_one : List ℕ → Option ℕ
+first_one [] = None
+first_one (k ∷ ks) = Some k
 
-abbrev pub only_one : List ℕ → Found
-only_one [] = Nothing
-only_one (k ∷ []) = At k
-only_one (k ∷ j ∷ ks) = Nothing
+abbrev pub only_one : List ℕ → Option ℕ
+only_one [] = None
+only_one (k ∷ []) = Some k
+only_one (k ∷ j ∷ ks) = None
 
 -- "one" means exactly one; and it has the property
-abbrev pub one : Found → Bool
-one Nothing = false
-one (At k) = true
+abbrev pub one : Option ℕ → Bool
+one None = false
+one (Some k) = true
 
-abbrev pub one_has : Found → (ℕ → Bool) → Bool
-one_has Nothing p = false
-one_has (At k) p = p k
+abbrev pub one_has : Option ℕ → (ℕ → Bool) → Bool
+one_has None p = false
+one_has (Some k) p = p k
 
-abbrev pub the : Found → ℕ
-the Nothing = 0
-the (At k) = k
+abbrev pub the : Option ℕ → ℕ
+the None = 0
+the (Some k) = k
 
 -- it is this element
-abbrev pub is_the : Found → ℕ → Bool
-is_the Nothing n = false
-is_the (At k) n = eqb k n
+abbrev pub is_the : Option ℕ → ℕ → Bool
+is_the None n = false
+is_the (Some k) n = eqb k n
 
 -- the one child of the role
-abbrev pub only_kid : Draft → ℕ → ℕ → Found
+abbrev pub only_kid : Draft → ℕ → ℕ → Option ℕ
 only_kid d n r = only_one (kids d n r)

@@ -1,7 +1,6 @@
 -- Worked examples of the definitions, each computed.
 -- Assumes nothing.
-use Rattle.std.specs.Prelude.{ℕ, ◌≡◌, refl, List, [], ◌∷◌, ◌++◌}
-use Rattle.text_scan.specs.declared.Found.TheVariants.{At, Nothing}
+use Rattle.std.specs.Prelude.{◌≡◌, refl, [], ◌∷◌, ◌++◌, None, Some}
 use Rattle.xml_steps.specs.Reading.{element_row}
 use Rattle.judge_paths.specs.Roles.{Unknown, Unlisted, Root, Id, Author, Entity1, Labeler}
 use Rattle.judge_tests.specs.declared.Test.TheVariants.{Any}
@@ -22,11 +21,11 @@ unfolding ancestor_in those all_below full_draft is passes chosen
 its_ids = refl
 
 -- of two ids none is the only one
-no_one_id : only_kid its 0 Id ≡ Nothing
+no_one_id : only_kid its 0 Id ≡ None
 unfolding ancestor_in those all_below full_draft is passes chosen
 no_one_id = refl
 
-the_labeler : only_one (chosen its (wanted Labeler 3 Any) 0) ≡ At 7
+the_labeler : only_one (chosen its (wanted Labeler 3 Any) 0) ≡ Some 7
 unfolding ancestor_in those all_below full_draft is passes chosen
 the_labeler = refl
 

@@ -1,5 +1,9 @@
 -- The two checks and the merge, one law for each way out.
 -- Assumes nothing.
+use Rattle.std.specs.Prelude.{Result, Ok, Err}
+use Rattle.refusals.specs.declared.Reason.TheVariants.{ShortList}
+use Rattle.refusals.specs.declared.Refusal.{Refusal}
+use Rattle.refusals.specs.Numbers.{refuses}
 use mathlib.Core.Path.{◌≡◌, refl, sym, ◌∙◌, ap}
 use mathlib.Core.Bool.{Bool, true, false}
 use mathlib.Core.List.{List}
@@ -10,36 +14,25 @@ use lib.Dec.{leb}
 use lib.ListN.{length, take, drop, length-append}
 use Rattle.text_scan.proofs.Tests.{and_right}
 use Rattle.list_findings.specs.declared.Finding.{Finding}
-use Rattle.list_findings.specs.declared.Merged.{Merged}
-use Rattle.list_findings.specs.declared.Merged.TheVariants.{Findings as Kept, Refused as NotMerged}
 use Rattle.list_findings.specs.Findings.{width, flat}
 use Rattle.list_findings.specs.Merge.{IsMerged}
 use Rattle.list_findings.proofs.Records.{length_flat}
 use Rattle.list_records.specs.Kept.{fitting, kept_in}
 use Rattle.list_records.proofs.Kept.{kept_long}
-use Rattle.judge_findings.specs.declared.Answer.{Answer}
-use Rattle.judge_findings.specs.declared.Answer.TheVariants.{Findings, Refused}
 use Rattle.judge_check.specs.Check.{check_of}
 use Rattle.judge_check.specs.Check.{CheckLeft}
 use Rattle.judge_check.specs.Accepted.{found_in}
 use Rattle.judge_check.proofs.Accepted.{accepted_check}
-use Rattle.judge_both.specs.Both.{as_answer, merge_second, check_second, both_of, BothLeft}
-
-module _ (m : Merged) where
-  pub kept_as : (n : ℕ) → m ≡ Kept n → Findings n ≡ as_answer m
-  kept_as n e = rw e
-
-  pub refused_as : (number value : ℕ) → m ≡ NotMerged number value → Refused number value ≡ as_answer m
-  refused_as number value e = rw e
+use Rattle.judge_both.specs.Both.{merge_second, check_second, both_of, BothLeft}
 
 -- the records of an accepted check stand in its list
-pub front_there : (s file scratch table list : List ℕ) (n : ℕ) → (check_of s file scratch table list).answer ≡ Findings n → n * width ≤ length (check_of s file scratch table list).list
+pub front_there : (s file scratch table list : List ℕ) (n : ℕ) → (check_of s file scratch table list).answer ≡ Ok n → n * width ≤ length (check_of s file scratch table list).list
 front_there s file scratch table list n e =
     let x = accepted_check s file scratch table list n e in
     let f = found_in s x.rows file in
     omega (arith, x.many, length_flat f, ap length x.holds ∙ length-append (flat f) (drop (length (flat f)) list))
 
-pub check_there : (s file scratch table list : List ℕ) (r : Answer) (scratch' table' list' : List ℕ) → CheckLeft (check_of s file scratch table list) r scratch' table' list' → (n : ℕ) → r ≡ Findings n → n * width ≤ length list'
+pub check_there : (s file scratch table list : List ℕ) (r : Result ℕ Refusal) (scratch' table' list' : List ℕ) → CheckLeft (check_of s file scratch table list) r scratch' table' list' → (n : ℕ) → r ≡ Ok n → n * width ≤ length list'
 check_there s file scratch table list r scratch' table' list' l n e = rw l.lists (front_there s file scratch table list n (sym l.answers ∙ e))
 
 -- ---- records that were kept, or did not fit
@@ -54,7 +47,7 @@ first_room list n records kept k t e f = let h = kept_room list n records 0 t e 
 
 -- ---- the merge
 module _ (list : List ℕ) (m : ℕ) (records : List Finding) (n : ℕ) (out : List ℕ) (t : Bool) (e : t ≡ fitting (length list) m (length records) n) where
-  pub no_room_answer : t ≡ false → Refused 11 (n + m) ≡ as_answer (merge_second list m records n out).answer
+  pub no_room_answer : t ≡ false → refuses ShortList (n + m) ≡ (merge_second list m records n out).answer
   unfolding merge_second
   no_room_answer f = rw (← e, f)
 
@@ -62,10 +55,10 @@ module _ (list : List ℕ) (m : ℕ) (records : List Finding) (n : ℕ) (out : L
   unfolding merge_second
   no_room_list f = rw (← e, f)
 
-  module _ (kept : List Finding) (k : kept ≡ kept_in list m records n) (f : t ≡ true) (x : Merged) (out' : List ℕ) (w : IsMerged (flat (take n kept)) (flat (take m (drop n kept))) out x out') where
-    pub merged_answer : (q : Answer) → q ≡ as_answer x → q ≡ as_answer (merge_second list m records n out).answer
+  module _ (kept : List Finding) (k : kept ≡ kept_in list m records n) (f : t ≡ true) (x : Result ℕ Refusal) (out' : List ℕ) (w : IsMerged (flat (take n kept)) (flat (take m (drop n kept))) out x out') where
+    pub merged_answer : x ≡ (merge_second list m records n out).answer
     unfolding merge_second
-    merged_answer q i = i ∙ rw (← e, f, ← k) (ap as_answer w.answers)
+    merged_answer = rw (← e, f, ← k) w.answers
 
     pub merged_list : out' ≡ (merge_second list m records n out).list
     unfolding merge_second
@@ -73,36 +66,36 @@ module _ (list : List ℕ) (m : ℕ) (records : List Finding) (n : ℕ) (out : L
 
 -- ---- the second check
 module _ (s b scratch table list : List ℕ) (n : ℕ) (records : List Finding) (out : List ℕ) (t : Bool) (e : t ≡ fitting (length list) n (length records) 0) (kept : List Finding) (k : kept ≡ kept_in list n records 0) where
-  pub first_no_room : t ≡ false → BothLeft (check_second s b scratch table list n records out) (Refused 11 n) scratch table list kept out
+  pub first_no_room : t ≡ false → BothLeft (check_second s b scratch table list n records out) (refuses ShortList n) scratch table list kept out
   unfolding check_second kept_in
   first_no_room f = rw (← e, f) record { answers = refl; scratches = refl; tables = refl; lists = refl; kept = k ∙ rw (← e, f); outs = refl }
 
-  module _ (f : t ≡ true) (r : Answer) (scratch' table' list' : List ℕ) (l : CheckLeft (check_of s b scratch table list) r scratch' table' list') where
-    pub second_refused : (number value : ℕ) → r ≡ Refused number value → BothLeft (check_second s b scratch table list n records out) (Refused number value) scratch' table' list' kept out
+  module _ (f : t ≡ true) (r : Result ℕ Refusal) (scratch' table' list' : List ℕ) (l : CheckLeft (check_of s b scratch table list) r scratch' table' list') where
+    pub second_refused : (refusal : Refusal) → r ≡ Err refusal → BothLeft (check_second s b scratch table list n records out) (Err refusal) scratch' table' list' kept out
     unfolding check_second
-    second_refused number value g =
-        let h : (check_of s b scratch table list).answer ≡ Refused number value = sym l.answers ∙ g in
+    second_refused refusal g =
+        let h : (check_of s b scratch table list).answer ≡ Err refusal = sym l.answers ∙ g in
         rw (← e, f, h) record { answers = refl; scratches = l.scratches; tables = l.tables; lists = l.lists; kept = k; outs = refl }
 
-    module _ (m : ℕ) (g : r ≡ Findings m) where
-      answered : (check_of s b scratch table list).answer ≡ Findings m
+    module _ (m : ℕ) (g : r ≡ Ok m) where
+      answered : (check_of s b scratch table list).answer ≡ Ok m
       answered = sym l.answers ∙ g
 
-      pub second_merged : (q : Answer) (kept' : List Finding) (out' : List ℕ) → q ≡ as_answer (merge_second list' m kept n out).answer → kept' ≡ kept_in list' m kept n → out' ≡ (merge_second list' m kept n out).list → BothLeft (check_second s b scratch table list n records out) q scratch' table' list' kept' out'
+      pub second_merged : (q : Result ℕ Refusal) (kept' : List Finding) (out' : List ℕ) → q ≡ (merge_second list' m kept n out).answer → kept' ≡ kept_in list' m kept n → out' ≡ (merge_second list' m kept n out).list → BothLeft (check_second s b scratch table list n records out) q scratch' table' list' kept' out'
       unfolding check_second
       second_merged q kept' out' i j h =
           rw (← e, f, answered, ← k, ← l.lists) record { answers = i; scratches = l.scratches; tables = l.tables; lists = refl; kept = j; outs = h }
 
 -- ---- the first check
-module _ (s a b scratch table list : List ℕ) (records : List Finding) (out : List ℕ) (r : Answer) (scratch' table' list' : List ℕ) (l : CheckLeft (check_of s a scratch table list) r scratch' table' list') where
-  pub first_refused : (number value : ℕ) → r ≡ Refused number value → BothLeft (both_of s a b scratch table list records out) (Refused number value) scratch' table' list' records out
+module _ (s a b scratch table list : List ℕ) (records : List Finding) (out : List ℕ) (r : Result ℕ Refusal) (scratch' table' list' : List ℕ) (l : CheckLeft (check_of s a scratch table list) r scratch' table' list') where
+  pub first_refused : (refusal : Refusal) → r ≡ Err refusal → BothLeft (both_of s a b scratch table list records out) (Err refusal) scratch' table' list' records out
   unfolding both_of
-  first_refused number value e =
-      let f : (check_of s a scratch table list).answer ≡ Refused number value = sym l.answers ∙ e in
+  first_refused refusal e =
+      let f : (check_of s a scratch table list).answer ≡ Err refusal = sym l.answers ∙ e in
       rw f record { answers = refl; scratches = l.scratches; tables = l.tables; lists = l.lists; kept = refl; outs = refl }
 
-  pub both_checked : (n : ℕ) → r ≡ Findings n → (q : Answer) (scratch'' table'' list'' : List ℕ) (records' : List Finding) (out' : List ℕ) → BothLeft (check_second s b scratch' table' list' n records out) q scratch'' table'' list'' records' out' → BothLeft (both_of s a b scratch table list records out) q scratch'' table'' list'' records' out'
+  pub both_checked : (n : ℕ) → r ≡ Ok n → (q : Result ℕ Refusal) (scratch'' table'' list'' : List ℕ) (records' : List Finding) (out' : List ℕ) → BothLeft (check_second s b scratch' table' list' n records out) q scratch'' table'' list'' records' out' → BothLeft (both_of s a b scratch table list records out) q scratch'' table'' list'' records' out'
   unfolding both_of
   both_checked n e q scratch'' table'' list'' records' out' k =
-      let f : (check_of s a scratch table list).answer ≡ Findings n = sym l.answers ∙ e in
+      let f : (check_of s a scratch table list).answer ≡ Ok n = sym l.answers ∙ e in
       rw (f, ← l.lists, ← l.scratches, ← l.tables) k

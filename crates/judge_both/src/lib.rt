@@ -4,20 +4,10 @@
 ghost use Rattle.std.specs.Prelude.{◌≡◌, ◌*◌, ◌≤◌, length};
 ghost use Rattle.list_findings.specs.Findings.{width};
 ghost use Rattle.list_records.specs.Kept.{kept_in};
-ghost use Rattle.judge_both.specs.Both.{as_answer, merge_second, check_second, both_of, BothLeft};
+ghost use Rattle.judge_both.specs.Both.{merge_second, check_second, both_of, BothLeft};
 
-use judge_findings::Answer;
-use list_findings::{Finding, Merged};
-
-// The merge's answer, as the check's.
-fn as_answer(merged: Merged) -> Answer
-    ensures { result ≡ as_answer merged }
-{
-    match merged {
-        Merged::Findings(n) => Answer::Findings(n),
-        Merged::Refused(number, value) => Answer::Refused(number, value),
-    }
-}
+use list_findings::Finding;
+use refusals::{Reason, Refusal};
 
 // Keeps m findings of a list behind n that are kept, and merges the two.
 fn merge_second(
@@ -26,14 +16,17 @@ fn merge_second(
     records: &mut [Finding],
     n: usize,
     out: &mut [u32],
-) -> Answer
+) -> Result<usize, Refusal>
     requires { (m * width ≤ length list.now) × (n ≤ length records.old) }
-    ensures { (result ≡ as_answer (merge_second list.now m records.old n out.old).answer) × (records.new ≡ kept_in list.now m records.old n) × (out.new ≡ (merge_second list.now m records.old n out.old).list) }
+    ensures { (result ≡ (merge_second list.now m records.old n out.old).answer) × (records.new ≡ kept_in list.now m records.old n) × (out.new ≡ (merge_second list.now m records.old n out.old).list) }
 {
     if !list_records::keep(list, m, records, n) {
-        return Answer::Refused(11, n + m);
+        return Err(Refusal {
+            reason: Reason::ShortList,
+            value: n + m,
+        });
     }
-    as_answer(list_records::merge_parts(records, n, m, out))
+    list_records::merge_parts(records, n, m, out)
 }
 
 // Keeps the n findings under the first file, checks under the second, and merges.
@@ -46,15 +39,18 @@ fn check_second(
     n: usize,
     records: &mut [Finding],
     out: &mut [u32],
-) -> Answer
+) -> Result<usize, Refusal>
     ensures { BothLeft (check_second document.now other.now scratch.old elements.old list.old n records.old out.old) result scratch.new elements.new list.new records.new out.new }
 {
     if !list_records::keep(list, n, records, 0) {
-        return Answer::Refused(11, n);
+        return Err(Refusal {
+            reason: Reason::ShortList,
+            value: n,
+        });
     }
     match judge_check::check(document, other, scratch, elements, list) {
-        Answer::Refused(number, value) => Answer::Refused(number, value),
-        Answer::Findings(m) => merge_second(list, m, records, n, out),
+        Err(refusal) => Err(refusal),
+        Ok(m) => merge_second(list, m, records, n, out),
     }
 }
 
@@ -68,13 +64,11 @@ pub fn check_both(
     list: &mut [u32],
     records: &mut [Finding],
     out: &mut [u32],
-) -> Answer
+) -> Result<usize, Refusal>
     ensures { BothLeft (both_of document.now one.now other.now scratch.old elements.old list.old records.old out.old) result scratch.new elements.new list.new records.new out.new }
 {
     match judge_check::check(document, one, scratch, elements, list) {
-        Answer::Refused(number, value) => Answer::Refused(number, value),
-        Answer::Findings(n) => {
-            check_second(document, other, scratch, elements, list, n, records, out)
-        }
+        Err(refusal) => Err(refusal),
+        Ok(n) => { check_second(document, other, scratch, elements, list, n, records, out) }
     }
 }

@@ -1,13 +1,12 @@
 -- Who has a contact, and the person of a contactParty: one law for each branch of the code.
 -- Assumes nothing.
+use Rattle.std.specs.Prelude.{Option, None, Some, ℕ}
 use mathlib.Core.Path.{◌≡◌, ◌∙◌, ap}
 use mathlib.Core.Bool.{Bool, true, false}
 use mathlib.Core.Logic.{◌⊎◌, inl, inr}
 use Prim.Native.Nat.{ℕ}
 use borrow.Author.Tests.{ne_eqb}
 use Rattle.text_scan.specs.Choice.{◌and◌, not}
-use Rattle.text_scan.specs.declared.Found.{Found}
-use Rattle.text_scan.specs.declared.Found.TheVariants.{At, Nothing}
 use Rattle.judge_paths.specs.Roles.{Registrant, Establishment, ContactParty, ContactPerson, PersonName, RequestLabeler}
 use Rattle.judge_draft.specs.Drafts.{Draft, role, parent, is}
 use Rattle.judge_below.specs.Chosen.{one, is_the, only_kid}
@@ -39,12 +38,12 @@ module _ (d : Draft) (n : ℕ) (a : Bool) (e : a ≡ has_contact d n) where
   party_23 f r g = rw (← e, f, ← g)
 
 -- ---- the person of a contactParty
-module _ (d : Draft) (n : ℕ) (x : Found) (e : x ≡ only_kid d n ContactPerson) where
-  pub person_none : x ≡ Nothing → false ≡ person_holds d n
+module _ (d : Draft) (n : ℕ) (x : Option ℕ) (e : x ≡ only_kid d n ContactPerson) where
+  pub person_none : x ≡ None → false ≡ person_holds d n
   unfolding person_holds
   person_none f = rw (← e, f)
 
-  pub person_one : (k : ℕ) → x ≡ At k → (b : Bool) → b ≡ one_said d k PersonName → b ≡ person_holds d n
+  pub person_one : (k : ℕ) → x ≡ Some k → (b : Bool) → b ≡ one_said d k PersonName → b ≡ person_holds d n
   unfolding person_holds
   person_one k f b g = g ∙ rw (← e, f)
 
@@ -53,7 +52,7 @@ module _ (d : Draft) (n : ℕ) (x : Found) (e : x ≡ only_kid d n ContactPerson
 in_order_30 : (d : Draft) (n : ℕ) → breaks30 d n ≡ (is d ContactParty n and has_contact d (parent d n) and not (person_holds d n) and is_the (only_kid d (parent d n) ContactParty) n)
 unfolding breaks30 contact_holds
 in_order_30 d n =
-    let x : Found = only_kid d (parent d n) ContactParty in
+    let x : Option ℕ = only_kid d (parent d n) ContactParty in
     ap (λ u. is d ContactParty n and has_contact d (parent d n) and u) (asked_last (one x) (is_the x n) (is_the x n) (not (person_holds d n)) (the_one x n))
 
 module _ (d : Draft) (n : ℕ) (a : Bool) (e : a ≡ is d ContactParty n) where

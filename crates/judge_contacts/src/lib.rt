@@ -2,52 +2,51 @@
 #![tactic(auto)]
 
 ghost use Rattle.std.specs.Prelude.{◌≡◌};
-ghost use Rattle.judge_draft.specs.Drafts.{draft};
+ghost use Rattle.judge_draft.specs.Drafts.{lent};
 ghost use Rattle.judge_contacts.specs.Contacts.{has_contact, breaks23, has_telecoms, breaks26, breaks27, breaks28, breaks29, person_holds, breaks30};
 
 use judge_addresses::one_said;
 use judge_below::{Wanted, how_many, is_only_kid, none, only_kid};
-use judge_draft::{Form, attribute_begins, attribute_has, is_role, parent, role_at};
+use judge_draft::{Draft, Form};
 use judge_organisations::has_one;
 use judge_paths::role;
 use judge_tests::Test;
-use text_scan::Found;
 
 // Whether 23 and 30 judge element n.
-fn has_contact(document: &[u8], notes: &[u32], n: usize) -> bool
-    ensures { result ≡ has_contact (draft document.now notes.now) n }
+fn has_contact(draft: Draft, n: usize) -> bool
+    ensures { result ≡ has_contact (lent draft.entry) n }
 {
-    match role_at(document, notes, n) {
+    match draft.role_at(n) {
         role::REGISTRANT | role::ESTABLISHMENT | role::REQUEST_LABELER => true,
         _ => false,
     }
 }
 
 // Whether 23 is broken at element n.
-pub fn breaks_23(document: &[u8], notes: &[u32], n: usize) -> bool
-    ensures { result ≡ breaks23 (draft document.now notes.now) n }
+pub fn breaks_23(draft: Draft, n: usize) -> bool
+    ensures { result ≡ breaks23 (lent draft.entry) n }
 {
-    if !has_contact(document, notes, n) {
+    if !has_contact(draft, n) {
         return false;
     }
-    !has_one(document, notes, n, role::CONTACT_PARTY)
+    !has_one(draft, n, role::CONTACT_PARTY)
 }
 
 // Whether 26 to 28 judge element n.
-fn has_telecoms(document: &[u8], notes: &[u32], n: usize) -> bool
-    ensures { result ≡ has_telecoms (draft document.now notes.now) n }
+fn has_telecoms(draft: Draft, n: usize) -> bool
+    ensures { result ≡ has_telecoms (lent draft.entry) n }
 {
-    match role_at(document, notes, n) {
+    match draft.role_at(n) {
         role::AGENT | role::CONTACT_PARTY => true,
         _ => false,
     }
 }
 
 // Whether 26 is broken at element n.
-pub fn breaks_26(document: &[u8], notes: &[u32], n: usize) -> bool
-    ensures { result ≡ breaks26 (draft document.now notes.now) n }
+pub fn breaks_26(draft: Draft, n: usize) -> bool
+    ensures { result ≡ breaks26 (lent draft.entry) n }
 {
-    if !has_telecoms(document, notes, n) {
+    if !has_telecoms(draft, n) {
         return false;
     }
     let telecom = Wanted {
@@ -55,14 +54,14 @@ pub fn breaks_26(document: &[u8], notes: &[u32], n: usize) -> bool
         levels: 1,
         test: Test::Any,
     };
-    how_many(document, notes, telecom, n) < 2
+    how_many(draft, telecom, n) < 2
 }
 
 // Whether 27 is broken at element n.
-pub fn breaks_27(document: &[u8], notes: &[u32], n: usize) -> bool
-    ensures { result ≡ breaks27 (draft document.now notes.now) n }
+pub fn breaks_27(draft: Draft, n: usize) -> bool
+    ensures { result ≡ breaks27 (lent draft.entry) n }
 {
-    if !has_telecoms(document, notes, n) {
+    if !has_telecoms(draft, n) {
         return false;
     }
     let telephone = Wanted {
@@ -70,14 +69,14 @@ pub fn breaks_27(document: &[u8], notes: &[u32], n: usize) -> bool
         levels: 1,
         test: Test::Telephone,
     };
-    none(document, notes, telephone, n)
+    none(draft, telephone, n)
 }
 
 // Whether 28 is broken at element n.
-pub fn breaks_28(document: &[u8], notes: &[u32], n: usize) -> bool
-    ensures { result ≡ breaks28 (draft document.now notes.now) n }
+pub fn breaks_28(draft: Draft, n: usize) -> bool
+    ensures { result ≡ breaks28 (lent draft.entry) n }
 {
-    if !has_telecoms(document, notes, n) {
+    if !has_telecoms(draft, n) {
         return false;
     }
     let mail = Wanted {
@@ -85,46 +84,46 @@ pub fn breaks_28(document: &[u8], notes: &[u32], n: usize) -> bool
         levels: 1,
         test: Test::Mail,
     };
-    none(document, notes, mail, n)
+    none(draft, mail, n)
 }
 
 // Whether 29 is broken at element n.
-pub fn breaks_29(document: &[u8], notes: &[u32], n: usize) -> bool
-    ensures { result ≡ breaks29 (draft document.now notes.now) n }
+pub fn breaks_29(draft: Draft, n: usize) -> bool
+    ensures { result ≡ breaks29 (lent draft.entry) n }
 {
-    if !is_role(document, notes, n, role::TELECOM) {
+    if !draft.is_role(n, role::TELECOM) {
         return false;
     }
-    if !attribute_begins(document, notes, n, b"value", b"tel:") {
+    if !draft.attribute_begins(n, b"value", b"tel:") {
         return false;
     }
-    !attribute_has(document, notes, n, b"value", Form::Telephone)
+    !draft.attribute_has(n, b"value", Form::Telephone)
 }
 
 // Whether element n has one contactPerson, and that one name with a text.
-fn person_holds(document: &[u8], notes: &[u32], n: usize) -> bool
-    ensures { result ≡ person_holds (draft document.now notes.now) n }
+fn person_holds(draft: Draft, n: usize) -> bool
+    ensures { result ≡ person_holds (lent draft.entry) n }
 {
-    let Found::At(k) = only_kid(document, notes, n, role::CONTACT_PERSON) else {
+    let Some(k) = only_kid(draft, n, role::CONTACT_PERSON) else {
         return false;
     };
-    one_said(document, notes, k, role::PERSON_NAME)
+    one_said(draft, k, role::PERSON_NAME)
 }
 
 // Whether 30 is broken at element n.
 // The person mostly decides, so whether the party is the only one is asked last.
-pub fn breaks_30(document: &[u8], notes: &[u32], n: usize) -> bool
-    ensures { result ≡ breaks30 (draft document.now notes.now) n }
+pub fn breaks_30(draft: Draft, n: usize) -> bool
+    ensures { result ≡ breaks30 (lent draft.entry) n }
 {
-    if !is_role(document, notes, n, role::CONTACT_PARTY) {
+    if !draft.is_role(n, role::CONTACT_PARTY) {
         return false;
     }
-    let holder = parent(document, notes, n);
-    if !has_contact(document, notes, holder) {
+    let holder = draft.parent(n);
+    if !has_contact(draft, holder) {
         return false;
     }
-    if person_holds(document, notes, n) {
+    if person_holds(draft, n) {
         return false;
     }
-    is_only_kid(document, notes, holder, role::CONTACT_PARTY, n)
+    is_only_kid(draft, holder, role::CONTACT_PARTY, n)
 }

@@ -1,19 +1,19 @@
 -- The contracts of this crate decide what is answered and left.
 -- Assumes nothing.
 use Rattle.text_scan.proofs.Decides.{only, Answers}
-use Rattle.judge_draft.proofs.number
-use Rattle.judge_draft.proofs.role_at
-use Rattle.judge_draft.proofs.is_role
-use Rattle.judge_draft.proofs.is_known
-use Rattle.judge_draft.proofs.parent
-use Rattle.judge_draft.proofs.byte_after
-use Rattle.judge_draft.proofs.first_byte
-use Rattle.judge_draft.proofs.attribute_is
-use Rattle.judge_draft.proofs.attribute_begins
-use Rattle.judge_draft.proofs.attribute_is_empty
-use Rattle.judge_draft.proofs.attribute_has
-use Rattle.judge_draft.proofs.text_is
-use Rattle.judge_draft.proofs.text_is_empty
+use Rattle.judge_draft.proofs.Draft.number
+use Rattle.judge_draft.proofs.Draft.role_at
+use Rattle.judge_draft.proofs.Draft.is_role
+use Rattle.judge_draft.proofs.Draft.is_known
+use Rattle.judge_draft.proofs.Draft.parent
+use Rattle.judge_draft.proofs.Draft.byte_after
+use Rattle.judge_draft.proofs.Draft.first_byte
+use Rattle.judge_draft.proofs.Draft.attribute_is
+use Rattle.judge_draft.proofs.Draft.attribute_begins
+use Rattle.judge_draft.proofs.Draft.attribute_is_empty
+use Rattle.judge_draft.proofs.Draft.attribute_has
+use Rattle.judge_draft.proofs.Draft.text_is
+use Rattle.judge_draft.proofs.Draft.text_is_empty
 
 pub number_decided : Answers number.Kinds.ps number.Kinds.r number.Reads.Post
 number_decided κs a x y s t p q = only p.0 q.0

@@ -1,13 +1,13 @@
 -- What is lent is the draft: the numbers of an element, a role, a value that was read.
 -- Assumes nothing.
 use mathlib.Core.Path.{◌≡◌, refl, sym, ◌∙◌, ap}
-use mathlib.Core.Bool.{Bool, true, false}
+use mathlib.Core.Bool.{Bool}
 use mathlib.Core.List.{List, [], ◌∷◌}
-use Prim.Native.Nat.{ℕ, ◌+◌, ◌*◌, ◌<◌, ◌≤◌, ◌^◌}
+use Prim.Native.Nat.{ℕ, ◌+◌, ◌*◌}
 use native.Mathlib.Omega.{arith}
 use borrow.Author.Tests.{ne_eqb}
 use lib.Dec.{eqb, ltb}
-use lib.ListN.{length, get_or, get_or-eq_default}
+use lib.ListN.{length, get_or}
 use Rattle.text_scan.specs.Lists.{pairs}
 use Rattle.text_facts.specs.Strings.{equal, begins_with}
 use Rattle.xml_values.specs.Attributes.{attribute_of}
@@ -17,13 +17,6 @@ use Rattle.judge_draft.specs.declared.Form.{Form}
 use Rattle.judge_draft.specs.declared.Form.TheVariants.{Version}
 use Rattle.judge_draft.specs.Forms.{has_form}
 use Rattle.judge_draft.specs.Drafts.{draft, role, parent, first, after, is, is_known, attribute, said, is_empty}
-
--- ---- past the end of the notes
-pub no_note : (notes : List ℕ) (n k : ℕ) → length notes ≤ n → 0 ≡ get_or notes (4 * n + k) 0
-no_note notes n k h = sym (get_or-eq_default notes 0 (omega arith))
-
-pub no_number : (notes : List ℕ) (i : ℕ) → length notes ≤ i → 0 ≡ get_or notes i 0
-no_number notes i h = sym (get_or-eq_default notes 0 h)
 
 module _ (s notes : List ℕ) (n : ℕ) where
   pub note_parent : (r : ℕ) → r ≡ get_or notes (4 * n + 1) 0 → r ≡ parent (draft s notes) n

@@ -10,6 +10,7 @@ use Rattle.xml_texts.specs.Texts.{text_of}
 use Rattle.judge_paths.specs.Roles.{is_known_role}
 use Rattle.judge_draft.specs.Below.{all_below}
 use Rattle.judge_draft.specs.Searched.{searched}
+use Rattle.judge_draft.specs.declared.Draft.{Draft as LentDraft}
 
 -- the document; its notes: for each element its role, its parent, its first byte and the byte after its end; and the elements so many levels below
 -- an element that have a property, in document order
@@ -26,6 +27,10 @@ full_draft bytes notes = record { bytes = bytes; notes = notes; below = all_belo
 -- (law `draft_full`, `judge_type/proofs/Ordered`)
 unfoldable pub draft : List ℕ → List ℕ → Draft
 draft bytes notes = record { bytes = bytes; notes = notes; below = searched notes }
+
+-- the draft that is lent
+abbrev pub lent : LentDraft → Draft
+lent d = draft d.document.now d.notes.now
 
 -- the number of elements
 abbrev pub element_count : Draft → ℕ

@@ -1,23 +1,20 @@
 -- Two lists that are told of one draft: the merge walks them together, and keeps just what the joined file would find.
 -- Assumes nothing.
-use mathlib.Core.Path.{◌≡◌, refl, sym, ◌∙◌, ap}
+use Rattle.std.specs.Prelude.{None}
+use mathlib.Core.Path.{◌≡◌, refl, sym}
 use mathlib.Core.Bool.{Bool, true, false}
-use mathlib.Core.List.{List, [], ◌∷◌, ◌++◌, map}
-use Prim.Native.Nat.{ℕ, zero, suc, ◌+◌, ◌-◌, ◌<◌, ◌≤◌}
-use native.Mathlib.Omega.{arith}
+use mathlib.Core.List.{List, [], ◌∷◌}
+use Prim.Native.Nat.{ℕ}
 use borrow.Author.Tests.{eq-eqb}
-use Rattle.text_scan.specs.Choice.{pick, ◌or◌, ◌and◌}
-use Rattle.text_scan.specs.declared.Found.{Found}
-use Rattle.text_scan.specs.declared.Found.TheVariants.{At, Nothing}
+use Rattle.text_scan.specs.Choice.{pick}
 use Rattle.text_scan.proofs.Tests.{never}
 use Rattle.list_findings.specs.declared.Finding.{Finding}
 use Rattle.list_findings.specs.declared.Class.{Class}
 use Rattle.list_findings.specs.declared.Class.TheVariants.{DocumentOnly, Both, Either}
 use Rattle.list_findings.specs.Findings.{precedes}
 use Rattle.list_findings.specs.Lists.{Before, Ordered, stays}
-use Rattle.list_findings.specs.Merge.{Met, alone, twice, among, met, verdict, kept, fault_of}
+use Rattle.list_findings.specs.Merge.{alone, twice, among, met, verdict, kept, fault_of}
 use Rattle.list_findings.proofs.Order.{irreflexive, asymmetric}
-use Rattle.list_findings.proofs.Lists.{before_trans}
 
 -- ---- what two lists meet
 met_both : (x : Finding) (a b : List Finding) → met (x ∷ a) (x ∷ b) ≡ twice x x ∷ met a b
@@ -87,7 +84,7 @@ these_ordered f (x ∷ xs) o = go (f x) (these_ordered f xs o.1)
 module _ (class : ℕ → Class) where
   pub record Agrees (a b c : List Finding) : Type 0 where
     pub list : kept class (met a b) ≡ c
-    pub faultless : fault_of class (met a b) ≡ Nothing
+    pub faultless : fault_of class (met a b) ≡ None
 
   module _ (x : Finding) (a b c : List Finding) (f : Before x a) (g : Before x b) (r : Agrees a b c) where
     kept_both : Agrees (x ∷ a) (x ∷ b) (x ∷ c)

@@ -1,11 +1,11 @@
 -- What a check answers, in document 01's numbers.
 -- Assumes nothing.
-use Rattle.std.specs.Prelude.{[], ◌∷◌}
+use Rattle.std.specs.Prelude.{[], ◌∷◌, Result, Ok, Err, ℕ}
+use Rattle.refusals.specs.declared.Refusal.{Refusal}
+use Rattle.refusals.specs.Numbers.{number_of}
 use Rattle.text_scan.specs.Numbered.{Numbered, numbered}
-use Rattle.judge_findings.specs.declared.Answer.{Answer}
-use Rattle.judge_findings.specs.declared.Answer.TheVariants.{Findings, Refused}
 
 -- how many findings; or 1 to 11 with what the refusal returns
-abbrev pub numbered_check : Answer → Numbered
-numbered_check (Findings count) = numbered 0 (count ∷ [])
-numbered_check (Refused number value) = numbered number (value ∷ [])
+abbrev pub numbered_check : Result ℕ Refusal → Numbered
+numbered_check (Ok count) = numbered 0 (count ∷ [])
+numbered_check (Err refusal) = numbered (number_of refusal.reason) (refusal.value ∷ [])

@@ -1,13 +1,12 @@
 -- What the one child of the root has: one law for each branch of the code.
 -- Assumes nothing.
+use Rattle.std.specs.Prelude.{Option, None, Some, ℕ}
 use mathlib.Core.Path.{◌≡◌, ◌∙◌}
 use mathlib.Core.Bool.{Bool, true, false}
 use mathlib.Core.List.{List}
 use Prim.Native.Nat.{ℕ}
 use lib.Dec.{ltb}
 use Rattle.text_scan.specs.Bytes.{text}
-use Rattle.text_scan.specs.declared.Found.{Found}
-use Rattle.text_scan.specs.declared.Found.TheVariants.{At, Nothing}
 use Rattle.text_facts.specs.Strings.{equal, is_guid}
 use Rattle.text_numbers.specs.Numbers.{version_of}
 use Rattle.text_numbers.specs.Days.{is_day}
@@ -21,7 +20,7 @@ use Rattle.judge_header.specs.declared.Property.TheVariants.{GuidRoot, OfType, D
 use Rattle.judge_header.specs.Header.{header_of, guid_root, id_holds, set_holds, registration_code, request_code, code_is, typed_code, has_type, type_of, day_value, version_value, version_holds, has_property}
 
 module _ (d : Draft) where
-  pub header_is : (a b c e f : Found) → a ≡ only_kid d 0 Id → b ≡ only_kid d 0 Code → c ≡ only_kid d 0 EffectiveTime → e ≡ only_kid d 0 SetId → f ≡ only_kid d 0 VersionNumber → record { id = a; code = b; time = c; set = e; version = f } ≡ header_of d
+  pub header_is : (a b c e f : Option ℕ) → a ≡ only_kid d 0 Id → b ≡ only_kid d 0 Code → c ≡ only_kid d 0 EffectiveTime → e ≡ only_kid d 0 SetId → f ≡ only_kid d 0 VersionNumber → record { id = a; code = b; time = c; set = e; version = f } ≡ header_of d
   unfolding header_of
   header_is a b c e f g h i j k = rw (g, h, i, j, k)
 
@@ -45,11 +44,11 @@ module _ (d : Draft) where
     typed_request f r g = g ∙ rw (← e, f)
 
   module _ (h : Header) where
-    pub no_type : h.code ≡ Nothing → Neither ≡ type_of d h
+    pub no_type : h.code ≡ None → Neither ≡ type_of d h
     unfolding type_of
     no_type e = rw e
 
-    module _ (k : ℕ) (e : h.code ≡ At k) (a : Bool) (f : a ≡ code_is d registration_code k) where
+    module _ (k : ℕ) (e : h.code ≡ Some k) (a : Bool) (f : a ≡ code_is d registration_code k) where
       pub registration_is : a ≡ true → Registration ≡ type_of d h
       unfolding type_of
       registration_is g = rw (e, ← f, g)
@@ -81,11 +80,11 @@ module _ (d : Draft) where
     unfolding has_property version_value
     version_is e r f = f ∙ rw e
 
-  module _ (p : Property) (x : Found) where
-    pub has_no_one : x ≡ Nothing → false ≡ one_has x (has_property d p)
+  module _ (p : Property) (x : Option ℕ) where
+    pub has_no_one : x ≡ None → false ≡ one_has x (has_property d p)
     has_no_one e = rw e
 
-    pub has_one : (k : ℕ) → x ≡ At k → (r : Bool) → r ≡ has_property d p k → r ≡ one_has x (has_property d p)
+    pub has_one : (k : ℕ) → x ≡ Some k → (r : Bool) → r ≡ has_property d p k → r ≡ one_has x (has_property d p)
     has_one k e r f = f ∙ rw e
 
   module _ (h : Header) (r : Bool) where

@@ -57,7 +57,7 @@ fn has_key_outside(
     requires { Serves Lookup.KeyElsewhere (keeps_row Lookup.KeyElsewhere code.now (attribute_of document.now set (text "root"))) tables.now from count keys.now }
     ensures { result ≡ some_row (is_key_elsewhere code.now key.now (attribute_of document.now set (text "root"))) (rows_at tables.now from count) }
 {
-    let Place::At(a, e) = xml_values::plain_attribute(document, set, b"root") else {
+    let Some(place) = xml_values::plain_attribute(document, set, b"root") else {
         let mut room = [0u8; Reader::VALUE];
         let id = xml_values::attribute(document, set, b"root", &mut room);
         return table_search::some_row(
@@ -79,7 +79,7 @@ fn has_key_outside(
         keys,
         code,
         key,
-        &document[a..e],
+        &document[place.first..place.after],
     )
 }
 
@@ -97,7 +97,7 @@ pub fn has_key_elsewhere(
     requires { Serves Lookup.KeyElsewhere (keeps_row Lookup.KeyElsewhere code.now (attribute_of document.now set (text "root"))) tables.now from count keys.now }
     ensures { result ≡ some_row (is_key_elsewhere code.now (attribute_of document.now at (text "extension")) (attribute_of document.now set (text "root"))) (rows_at tables.now from count) }
 {
-    let Place::At(a, e) = xml_values::plain_attribute(document, at, b"extension") else {
+    let Some(place) = xml_values::plain_attribute(document, at, b"extension") else {
         let mut room = [0u8; Reader::VALUE];
         let key = xml_values::attribute(document, at, b"extension", &mut room);
         return has_key_outside(document, set, tables, from, count, keys, code, key);
@@ -110,7 +110,7 @@ pub fn has_key_elsewhere(
         count,
         keys,
         code,
-        &document[a..e],
+        &document[place.first..place.after],
     )
 }
 
@@ -147,12 +147,20 @@ fn has_key_beside(
     requires { Told known keys (attribute_of document.now set (text "root")) tables.now from count }
     ensures { result ≡ some_row (is_other_key request_code (attribute_of document.now set (text "root")) key.now) (rows_at tables.now from count) }
 {
-    let Place::At(a, e) = xml_values::plain_attribute(document, set, b"root") else {
+    let Some(place) = xml_values::plain_attribute(document, set, b"root") else {
         let mut room = [0u8; Reader::VALUE];
         let id = xml_values::attribute(document, set, b"root", &mut room);
         return is_other_key(tables, from, count, known, keys, id, key);
     };
-    is_other_key(tables, from, count, known, keys, &document[a..e], key)
+    is_other_key(
+        tables,
+        from,
+        count,
+        known,
+        keys,
+        &document[place.first..place.after],
+        key,
+    )
 }
 
 // Whether a row of a request with the set id of the element at `set` has another key than that of the id at `at`.
@@ -169,7 +177,7 @@ pub fn has_other_key(
     requires { Told known keys (attribute_of document.now set (text "root")) tables.now from count }
     ensures { result ≡ some_row (is_other_key request_code (attribute_of document.now set (text "root")) (attribute_of document.now at (text "extension"))) (rows_at tables.now from count) }
 {
-    let Place::At(a, e) = xml_values::plain_attribute(document, at, b"extension") else {
+    let Some(place) = xml_values::plain_attribute(document, at, b"extension") else {
         let mut room = [0u8; Reader::VALUE];
         let key = xml_values::attribute(document, at, b"extension", &mut room);
         return has_key_beside(document, set, tables, from, count, known, keys, key);
@@ -182,6 +190,6 @@ pub fn has_other_key(
         count,
         known,
         keys,
-        &document[a..e],
+        &document[place.first..place.after],
     )
 }

@@ -7,7 +7,7 @@ ghost use Rattle.xml_reader.specs.Limits.{scratch_limit};
 ghost use Rattle.judge_input.specs.Input.{admitted};
 ghost use Rattle.judge_input.specs.Scratch.{cleared};
 
-use table_file::Accepted;
+use refusals::{Reason, Refusal};
 use xml_reader::Reader;
 
 // Where the rows of each section start, and how many there are.
@@ -21,42 +21,40 @@ pub struct Sections {
     pub nhistory: usize,
 }
 
-// The number of a refusal with what it returns, or the sections of the tables.
-#[derive(Clone, Copy)]
-pub enum Input {
-    Refused(u32, usize),
-    Tables(Sections),
-}
-
 // Whether document, tables and a scratch area of so many bytes can be taken.
-pub fn admit(document: &[u8], tables: &[u8], scratch: usize) -> Input
+pub fn admit(document: &[u8], tables: &[u8], scratch: usize) -> Result<Sections, Refusal>
     ensures { result ≡ admitted document.now tables.now scratch }
 {
     if Reader::DOCUMENT < document.len() {
-        return Input::Refused(1, document.len());
+        return Err(Refusal {
+            reason: Reason::LongDocument,
+            value: document.len(),
+        });
     }
     if Reader::TABLES < tables.len() {
-        return Input::Refused(2, tables.len());
+        return Err(Refusal {
+            reason: Reason::LongTables,
+            value: tables.len(),
+        });
     }
     if scratch < Reader::SCRATCH {
-        return Input::Refused(3, Reader::SCRATCH);
+        return Err(Refusal {
+            reason: Reason::ShortScratch,
+            value: Reader::SCRATCH,
+        });
     }
     match table_file::accept(tables) {
-        Accepted::Refused(place) => Input::Refused(4, place),
-        Accepted::Tables {
-            codes: c,
-            codes_count: nc,
-            names: r,
-            names_count: nr,
-            history: h,
-            history_count: nh,
-        } => Input::Tables(Sections {
-            codes: c,
-            ncodes: nc,
-            names: r,
-            nnames: nr,
-            history: h,
-            nhistory: nh,
+        Err(refusal) => Err(Refusal {
+            reason: Reason::BadTables,
+            value: refusal.place,
+        }),
+        Ok(t) => Ok(Sections {
+            codes: t.codes.first,
+            ncodes: t.codes.count,
+            names: t.names.first,
+            nnames: t.names.count,
+            history: t.history.first,
+            nhistory: t.history.count,
         }),
     }
 }
@@ -66,9 +64,7 @@ pub fn clear(scratch: &mut [u8])
     requires { scratch_limit ≤ length scratch.old }
     ensures { scratch.new ≡ cleared scratch.old }
 {
-    let mut k = 0;
-    while k < Reader::SCRATCH {
+    for k in 0..Reader::SCRATCH {
         scratch[k] = 0;
-        k += 1;
     }
 }

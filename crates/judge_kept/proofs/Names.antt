@@ -1,5 +1,6 @@
 -- The names that a role lists, by the arms of the code; and which of them a name is.
 -- Assumes nothing.
+use Rattle.std.specs.Prelude.{Option, None}
 use mathlib.Core.Path.{◌≡◌, refl, sym, ◌∙◌}
 use mathlib.Core.Bool.{Bool, true, false}
 use mathlib.Core.List.{List, [], ◌∷◌}
@@ -11,7 +12,6 @@ use Rattle.text_scan.specs.Bytes.{text}
 use Rattle.text_scan.specs.Choice.{pick, ◌or◌}
 use Rattle.text_facts.specs.Strings.{equal}
 use Rattle.xml_values.specs.declared.Place.{Place}
-use Rattle.xml_values.specs.declared.Place.TheVariants.{Nothing}
 use Rattle.xml_values.specs.Views.{plain_of}
 use Rattle.xml_listed.specs.declared.Listed.{Listed}
 use Rattle.xml_listed.specs.Listed.{listed_in}
@@ -144,11 +144,11 @@ module _ (q : ℕ) where
 
   -- ---- the texts
   module _ (s : List ℕ) (f : ℕ) (b : Bool) (e : b ≡ is_role q text_roles) where
-    pub text_asked : b ≡ true → (p : Place) → p ≡ plain_of s (text_place s f) → p ≡ text_kept s f q
+    pub text_asked : b ≡ true → (p : Option Place) → p ≡ plain_of s (text_place s f) → p ≡ text_kept s f q
     unfolding text_kept
     text_asked h p g = g ∙ rw (← e, h)
 
-    pub no_text : b ≡ false → Nothing ≡ text_kept s f q
+    pub no_text : b ≡ false → None ≡ text_kept s f q
     unfolding text_kept
     no_text h = rw (← e, h)
 

@@ -1,5 +1,6 @@
 -- The run of the notes, by the tests of the code: rows in front, what is kept behind them.
 -- Assumes nothing.
+use Rattle.std.specs.Prelude.{Option, None, Some}
 use mathlib.Core.Path.{◌≡◌, refl, sym, ◌∙◌, ap}
 use mathlib.Core.Bool.{Bool, true, false}
 use mathlib.Core.List.{List, []}
@@ -13,8 +14,8 @@ use Rattle.text_scan.specs.Choice.{pick, ◌and◌}
 use Rattle.text_scan.proofs.Tests.{pick_case, and_left, and_right}
 use Rattle.xml_reader.specs.Limits.{document_limit}
 use Rattle.xml_values.specs.declared.Place.{Place}
-use Rattle.xml_values.specs.declared.Place.TheVariants.{At, Nothing}
 use Rattle.judge_kept.specs.Kept.{note_width, kept_width, rows_in, kept_in, first_number, after_number, standing, text_held, which_of, role_in, names_of, no_other, attribute_held}
+use Rattle.xml_values.specs.Places.{from_to}
 
 -- ---- the rows
 pub rows_length : (w : List ℕ) → length (rows_in w) ≡ 4 * (length w / note_width)
@@ -45,21 +46,21 @@ module _ (w : List ℕ) (n i : ℕ) where
 
 -- ---- a place in two numbers
 module _ (s : List ℕ) (a f x y : ℕ) (ea : a ≡ x) (ef : f ≡ y) where
-  pub stands_there : a < f → f - 1 ≤ length s → At a (f - 1) ≡ standing s x y
+  pub stands_there : a < f → f - 1 ≤ length s → from_to a (f - 1) ≡ standing s x y
   unfolding standing
   stands_there h g = rw (← ea, ← ef, lt-ltb a f h, le-leb (f - 1) (length s) g)
 
-  pub stands_outside : a < f → length s < f - 1 → Nothing ≡ standing s x y
+  pub stands_outside : a < f → length s < f - 1 → None ≡ standing s x y
   unfolding standing
   stands_outside h g = rw (← ea, ← ef, lt-ltb a f h, lt-leb (f - 1) (length s) g)
 
-  pub stands_nowhere : f ≤ a → Nothing ≡ standing s x y
+  pub stands_nowhere : f ≤ a → None ≡ standing s x y
   unfolding standing
   stands_nowhere h = rw (← ea, ← ef, le-ltb a f h)
 
 -- by the reads of the code
 module _ (s w : List ℕ) (n : ℕ) where
-  pub held_text : (p : Place) → p ≡ standing s (kept_in w n 0) (kept_in w n (0 + 1)) → p ≡ text_held s w n
+  pub held_text : (p : Option Place) → p ≡ standing s (kept_in w n 0) (kept_in w n (0 + 1)) → p ≡ text_held s w n
   unfolding text_held
   held_text p e = e
 
@@ -67,14 +68,14 @@ module _ (s w : List ℕ) (n : ℕ) where
   other_told x e = rw e
 
 -- it is one of the document
-abbrev pub Stands : List ℕ → Place → Type 0
-Stands s (At a e) = (a ≤ e) × (e ≤ length s)
-Stands s Nothing = Unit {0}
+abbrev pub Stands : List ℕ → Option Place → Type 0
+Stands s (Some p) = (p.first ≤ p.after) × (p.after ≤ length s)
+Stands s None = Unit {0}
 
 standing_within : (s : List ℕ) (x y : ℕ) → Stands s (standing s x y)
 unfolding standing
 standing_within s x y =
-    pick_case (Stands s) (ltb x y and leb (y - 1) (length s)) (At x (y - 1)) Nothing
+    pick_case (Stands s) (ltb x y and leb (y - 1) (length s)) (from_to x (y - 1)) None
     (λ e.
     let h : x < y = ltb-true x y (and_left (ltb x y) (leb (y - 1) (length s)) e) in
     (omega arith, leb-true (y - 1) (length s) (and_right (ltb x y) (leb (y - 1) (length s)) e)))
@@ -88,9 +89,9 @@ pub attribute_within : (s w : List ℕ) (n : ℕ) (name : List ℕ) → Stands s
 unfolding attribute_held
 attribute_within s w n name =
     let k = which_of name (names_of (role_in w n)) in
-    pick_case (Stands s) (ltb k 3) (standing s (kept_in w n (2 + 2 * k)) (kept_in w n (3 + 2 * k))) (pick (no_other w n) (At 0 0) Nothing)
+    pick_case (Stands s) (ltb k 3) (standing s (kept_in w n (2 + 2 * k)) (kept_in w n (3 + 2 * k))) (pick (no_other w n) (from_to 0 0) None)
     (λ _. standing_within s (kept_in w n (2 + 2 * k)) (kept_in w n (3 + 2 * k)))
-    (λ _. pick_case (Stands s) (no_other w n) (At 0 0) Nothing (λ _. (omega arith, omega arith)) (λ _. tt))
+    (λ _. pick_case (Stands s) (no_other w n) (from_to 0 0) None (λ _. (omega arith, omega arith)) (λ _. tt))
 
 -- ---- where an attribute is held
 module _ (s w : List ℕ) (n : ℕ) (name : List ℕ) (q : ℕ) (eq : q ≡ get_or (rows_in w) (4 * n + 0) 0) (k : ℕ) (ek : k ≡ which_of name (names_of q)) where
@@ -102,38 +103,38 @@ module _ (s w : List ℕ) (n : ℕ) (name : List ℕ) (q : ℕ) (eq : q ≡ get_
   its_name : k ≡ which_of name (names_of (role_in w n))
   its_name = ek ∙ ap (λ (r : ℕ). which_of name (names_of r)) its_role
 
-  pub held_listed : k < 3 → (p : Place) → p ≡ standing s (kept_in w n (2 + 2 * k)) (kept_in w n (2 + 2 * k + 1)) → p ≡ attribute_held s w n name
+  pub held_listed : k < 3 → (p : Option Place) → p ≡ standing s (kept_in w n (2 + 2 * k)) (kept_in w n (2 + 2 * k + 1)) → p ≡ attribute_held s w n name
   unfolding attribute_held
   held_listed h p e =
       let z : 2 + 2 * k + 1 ≡ 3 + 2 * k = omega arith in
       e ∙ rw (z, ← its_name, lt-ltb k 3 h)
 
   module _ (h : 3 ≤ k) (b : Bool) (eb : b ≡ no_other w n) where
-    pub held_empty : b ≡ true → At 0 0 ≡ attribute_held s w n name
+    pub held_empty : b ≡ true → from_to 0 0 ≡ attribute_held s w n name
     unfolding attribute_held
     held_empty f = rw (← its_name, le-ltb k 3 h, ← eb, f)
 
-    pub not_held : b ≡ false → Nothing ≡ attribute_held s w n name
+    pub not_held : b ≡ false → None ≡ attribute_held s w n name
     unfolding attribute_held
     not_held f = rw (← its_name, le-ltb k 3 h, ← eb, f)
 
 -- ---- a place as numbers
-module _ (p : Place) (a e : ℕ) (z : p ≡ At a e) where
-  pub no_first : e < a → 0 ≡ first_number p
-  no_first h = rw (z, lt-leb a e h)
+module _ (p : Option Place) (there : Place) (z : p ≡ Some there) where
+  pub no_first : there.after < there.first → 0 ≡ first_number p
+  no_first h = rw (z, lt-leb there.first there.after h)
 
-  pub no_after : e < a → 0 ≡ after_number p
-  no_after h = rw (z, lt-leb a e h)
+  pub no_after : there.after < there.first → 0 ≡ after_number p
+  no_after h = rw (z, lt-leb there.first there.after h)
 
-  module _ (h : a ≤ e) where
-    pub far_first : document_limit < e → 0 ≡ first_number p
-    far_first g = rw (z, le-leb a e h, lt-leb e document_limit g)
+  module _ (h : there.first ≤ there.after) where
+    pub far_first : document_limit < there.after → 0 ≡ first_number p
+    far_first g = rw (z, le-leb there.first there.after h, lt-leb there.after document_limit g)
 
-    pub far_after : document_limit < e → 0 ≡ after_number p
-    far_after g = rw (z, le-leb a e h, lt-leb e document_limit g)
+    pub far_after : document_limit < there.after → 0 ≡ after_number p
+    far_after g = rw (z, le-leb there.first there.after h, lt-leb there.after document_limit g)
 
-    pub its_first : e ≤ document_limit → a ≡ first_number p
-    its_first g = rw (z, le-leb a e h, le-leb e document_limit g)
+    pub its_first : there.after ≤ document_limit → there.first ≡ first_number p
+    its_first g = rw (z, le-leb there.first there.after h, le-leb there.after document_limit g)
 
-    pub its_after : e ≤ document_limit → e + 1 ≡ after_number p
-    its_after g = rw (z, le-leb a e h, le-leb e document_limit g)
+    pub its_after : there.after ≤ document_limit → there.after + 1 ≡ after_number p
+    its_after g = rw (z, le-leb there.first there.after h, le-leb there.after document_limit g)

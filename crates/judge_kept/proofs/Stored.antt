@@ -1,5 +1,6 @@
 -- What is stored one after the other is stored as one list.
 -- Assumes nothing.
+use Rattle.std.specs.Prelude.{Option}
 use mathlib.Core.Path.{◌≡◌, refl, sym, ◌∙◌, ap}
 use mathlib.Core.Bool.{Bool}
 use mathlib.Core.List.{List, [], ◌∷◌, ◌++◌}
@@ -32,17 +33,17 @@ two_stored w at a b x y e f =
 pub both_stored : (xs ys w : List ℕ) (at k : ℕ) (w1 : List ℕ) → w1 ≡ sets w at xs → k ≡ at + length xs → (w2 : List ℕ) → w2 ≡ sets w1 k ys → w2 ≡ sets w at (xs ++ ys)
 both_stored xs ys w at k w1 e1 h w2 e2 = e2 ∙ ap (λ x. sets x k ys) e1 ∙ sets_then xs ys w at k h
 
-pub two_places : (x y : Place) (w : List ℕ) (at : ℕ) (w1 : List ℕ) → w1 ≡ sets w at (place_numbers x) → (w2 : List ℕ) → w2 ≡ sets w1 (at + 2) (place_numbers y) → w2 ≡ sets w at (place_numbers x ++ place_numbers y)
+pub two_places : (x y : Option Place) (w : List ℕ) (at : ℕ) (w1 : List ℕ) → w1 ≡ sets w at (place_numbers x) → (w2 : List ℕ) → w2 ≡ sets w1 (at + 2) (place_numbers y) → w2 ≡ sets w at (place_numbers x ++ place_numbers y)
 two_places x y w at w1 e1 w2 e2 = both_stored (place_numbers x) (place_numbers y) w at (at + 2) w1 e1 refl w2 e2
 
-pub last_stored : (z : Place) (other : Bool) (w : List ℕ) (at : ℕ) (w1 : List ℕ) → w1 ≡ sets w at (place_numbers z) → (f : ℕ) → f ≡ flag_of other → set w1 (at + 2) f ≡ sets w at (place_numbers z ++ (flag_of other ∷ []))
+pub last_stored : (z : Option Place) (other : Bool) (w : List ℕ) (at : ℕ) (w1 : List ℕ) → w1 ≡ sets w at (place_numbers z) → (f : ℕ) → f ≡ flag_of other → set w1 (at + 2) f ≡ sets w at (place_numbers z ++ (flag_of other ∷ []))
 last_stored z other w at w1 e1 f ef = both_stored (place_numbers z) (flag_of other ∷ []) w at (at + 2) w1 e1 refl (set w1 (at + 2) f) (rw ef)
 
 pub listed_stored : (l : Listed) (w : List ℕ) (at : ℕ) (w1 : List ℕ) → w1 ≡ sets w at (place_numbers l.x ++ place_numbers l.y) → (w2 : List ℕ) → w2 ≡ sets w1 (at + 4) (place_numbers l.z ++ (flag_of l.other ∷ [])) → w2 ≡ sets w at (listed_numbers l)
 listed_stored l w at w1 e1 w2 e2 =
     both_stored (place_numbers l.x ++ place_numbers l.y) (place_numbers l.z ++ (flag_of l.other ∷ [])) w at (at + 4) w1 e1 refl w2 e2
 
-pub kept_stored : (s : List ℕ) (f r : ℕ) (w : List ℕ) (at : ℕ) (p : Place) → p ≡ text_kept s f r → (w1 : List ℕ) → w1 ≡ sets w at (place_numbers p) → (l : Listed) → l ≡ listed_kept s f r → (w2 : List ℕ) → w2 ≡ sets w1 (at + 2) (listed_numbers l) → w2 ≡ sets w at (kept_of s f r)
+pub kept_stored : (s : List ℕ) (f r : ℕ) (w : List ℕ) (at : ℕ) (p : Option Place) → p ≡ text_kept s f r → (w1 : List ℕ) → w1 ≡ sets w at (place_numbers p) → (l : Listed) → l ≡ listed_kept s f r → (w2 : List ℕ) → w2 ≡ sets w1 (at + 2) (listed_numbers l) → w2 ≡ sets w at (kept_of s f r)
 unfolding kept_of
 kept_stored s f r w at p ep w1 e1 l el w2 e2 =
     e2 ∙ ap (λ x. sets x (at + 2) (listed_numbers l)) e1 ∙ sets_then (place_numbers p) (listed_numbers l) w at (at + 2) refl ∙ rw (ep, el)

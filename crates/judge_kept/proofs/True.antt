@@ -1,5 +1,6 @@
 -- What is held of an element whose numbers were kept is what the document says.
 -- Assumes nothing.
+use Rattle.std.specs.Prelude.{Option, None, Some}
 use mathlib.Core.Path.{◌≡◌, refl, sym, ◌∙◌, ap}
 use mathlib.Core.Bool.{Bool, true, false}
 use mathlib.Core.List.{List, [], ◌∷◌, ◌++◌}
@@ -15,7 +16,6 @@ use Rattle.text_facts.proofs.StringLaws.{equal_is}
 use Rattle.xml_reader.specs.Limits.{document_limit}
 use Rattle.xml_references.specs.Decoded.{part}
 use Rattle.xml_values.specs.declared.Place.{Place}
-use Rattle.xml_values.specs.declared.Place.TheVariants.{At, Nothing}
 use Rattle.xml_values.specs.Attributes.{attribute_place, attribute_of, has_other}
 use Rattle.xml_values.specs.Views.{plain_of}
 use Rattle.xml_values.proofs.Attributes.{empty_name}
@@ -28,6 +28,7 @@ use Rattle.xml_texts.proofs.Texts.{text_says}
 use Rattle.judge_paths.specs.Roles.{is_known_role}
 use Rattle.judge_paths.specs.Attributes.{Lists, attribute_table, is_role, listed_names}
 use Rattle.judge_kept.specs.Kept.{kept_width, rows_in, kept_in, is_kept, first_number, after_number, text_roles, text_kept, Three, three, names_of, nothing_listed, listed_by, listed_kept, flag_of, listed_numbers, place_numbers, kept_of, standing, text_held, which_of, role_in, first_in, no_other, attribute_held, held_or, value_in, words_in, other_in}
+use Rattle.xml_values.specs.Places.{from_to}
 
 -- ---- a place in numbers: it stands as it stood, or is not kept
 module _ (s v : List ℕ) where
@@ -35,13 +36,13 @@ module _ (s v : List ℕ) where
   unfolding standing
   back a e q true =
       let z : e + 1 - 1 ≡ e = omega arith in
-      rw z (pick_case (λ p. held_or s p v ≡ v) (ltb a (e + 1) and leb e (length s)) (At a e) Nothing (λ _. q) (λ _. refl))
+      rw z (pick_case (λ p. held_or s p v ≡ v) (ltb a (e + 1) and leb e (length s)) (from_to a e) None (λ _. q) (λ _. refl))
   back a e q false = refl
 
-  pub place_back : (p : Place) → AsItStands s v p → held_or s (standing s (first_number p) (after_number p)) v ≡ v
+  pub place_back : (p : Option Place) → AsItStands s v p → held_or s (standing s (first_number p) (after_number p)) v ≡ v
   unfolding standing
-  place_back (At a e) k = back a e k.2 (is_kept a e)
-  place_back Nothing k = refl
+  place_back (Some p) k = back p.first p.after k.2 (is_kept p.first p.after)
+  place_back None k = refl
 
 -- ---- the text
 module _ (s : List ℕ) (f r : ℕ) where
@@ -49,7 +50,7 @@ module _ (s : List ℕ) (f r : ℕ) where
   unfolding text_kept
   text_true = place_back s (text_of s f) (text_kept s f r) (stands (is_role r text_roles))
     where
-      stands : (b : Bool) → AsItStands s (text_of s f) (pick b (plain_of s (text_place s f)) Nothing)
+      stands : (b : Bool) → AsItStands s (text_of s f) (pick b (plain_of s (text_place s f)) None)
       stands true = plain_stands s (text_of s f) (text_place s f) (text_says s f)
       stands false = tt
 
@@ -144,13 +145,13 @@ module _ (s w : List ℕ) (n f r : ℕ) (at_first : first_in w n ≡ f) (of-role
     abbrev v : List ℕ
     v = attribute_of s f name
 
-    abbrev held_by : ℕ → Place
-    held_by j = pick (ltb j 3) (standing s (kept_in w n (2 + 2 * j)) (kept_in w n (3 + 2 * j))) (pick (no_other w n) (At 0 0) Nothing)
+    abbrev held_by : ℕ → Option Place
+    held_by j = pick (ltb j 3) (standing s (kept_in w n (2 + 2 * j)) (kept_in w n (3 + 2 * j))) (pick (no_other w n) (from_to 0 0) None)
 
-    named : (x : List ℕ) (p : Place) → equal name x ≡ true → AsItStands s (attribute_of s f x) p → held_or s (standing s (first_number p) (after_number p)) v ≡ v
+    named : (x : List ℕ) (p : Option Place) → equal name x ≡ true → AsItStands s (attribute_of s f x) p → held_or s (standing s (first_number p) (after_number p)) v ≡ v
     named x p e q = place_back s v p (rw (equal_is name x e) q)
 
-    unnamed : equal name (names_of r).x ≡ false → equal name (names_of r).y ≡ false → equal name (names_of r).z ≡ false → (b : Bool) → (listed_kept s f r).other ≡ b → held_or s (pick (eqb (flag_of b) 1) (At 0 0) Nothing) v ≡ v
+    unnamed : equal name (names_of r).x ≡ false → equal name (names_of r).y ≡ false → equal name (names_of r).z ≡ false → (b : Bool) → (listed_kept s f r).other ≡ b → held_or s (pick (eqb (flag_of b) 1) (from_to 0 0) None) v ≡ v
     unfolding is_one_of
     unnamed a b c true q = refl
     unnamed a b c false q =

@@ -2,14 +2,13 @@
 -- (law `draft_full`, `judge_type/proofs/Ordered`). The notes of a draft are one run: a row of four numbers for each element, and behind all rows nine
 -- numbers for each: where its text stands, where the three attributes that its role lists stand, and whether it has no other.
 -- Assumes nothing.
-use Rattle.std.specs.Prelude.{ℕ, ◌+◌, ◌-◌, ◌*◌, ◌/◌, Bool, true, false, List, [], ◌∷◌, ◌++◌, eqb, leb, ltb, length, get_or, take}
+use Rattle.std.specs.Prelude.{ℕ, ◌+◌, ◌-◌, ◌*◌, ◌/◌, Bool, true, false, List, [], ◌∷◌, ◌++◌, eqb, leb, ltb, length, get_or, take, Option, None, Some}
 use Rattle.text_scan.specs.Choice.{pick, ◌and◌}
 use Rattle.text_facts.specs.Strings.{equal}
 use Rattle.xml_reader.specs.Limits.{document_limit}
 use Rattle.xml_references.specs.Decoded.{part}
 use Rattle.xml_steps.specs.Reading.{first_of}
 use Rattle.xml_values.specs.declared.Place.{Place}
-use Rattle.xml_values.specs.declared.Place.TheVariants.{At, Nothing}
 use Rattle.xml_values.specs.Attributes.{attribute_of, has_other}
 use Rattle.xml_values.specs.Views.{plain_of}
 use Rattle.xml_listed.specs.declared.Listed.{Listed}
@@ -17,6 +16,7 @@ use Rattle.xml_listed.specs.Listed.{listed_in}
 use Rattle.xml_texts.specs.Texts.{text_place, text_of}
 use Rattle.judge_paths.specs.Roles.{OrganisationName, PersonName, StreetAddressLine, City, State, PostalCode, Country, is_known_role}
 use Rattle.judge_paths.specs.Attributes.{attribute_table, is_role, listed_names}
+use Rattle.xml_values.specs.Places.{from_to}
 
 -- ---- the run
 abbrev pub kept_width : ℕ
@@ -37,20 +37,20 @@ kept_in w n i = pick (ltb n (length w / note_width)) (get_or w (4 * (length w / 
 abbrev pub is_kept : ℕ → ℕ → Bool
 is_kept a e = leb a e and leb e document_limit
 
-abbrev pub first_number : Place → ℕ
-first_number (At a e) = pick (is_kept a e) a 0
-first_number Nothing = 0
+abbrev pub first_number : Option Place → ℕ
+first_number (Some p) = pick (is_kept p.first p.after) p.first 0
+first_number None = 0
 
-abbrev pub after_number : Place → ℕ
-after_number (At a e) = pick (is_kept a e) (e + 1) 0
-after_number Nothing = 0
+abbrev pub after_number : Option Place → ℕ
+after_number (Some p) = pick (is_kept p.first p.after) (p.after + 1) 0
+after_number None = 0
 
 -- the texts that a procedure asks for
 abbrev pub text_roles : List ℕ
 text_roles = OrganisationName ∷ PersonName ∷ StreetAddressLine ∷ City ∷ State ∷ PostalCode ∷ Country ∷ []
 
-unfoldable pub text_kept : List ℕ → ℕ → ℕ → Place
-text_kept s first r = pick (is_role r text_roles) (plain_of s (text_place s first)) Nothing
+unfoldable pub text_kept : List ℕ → ℕ → ℕ → Option Place
+text_kept s first r = pick (is_role r text_roles) (plain_of s (text_place s first)) None
 
 -- the three names that a role lists, empty ones for those that it has not
 pub record Three : Type 0 where
@@ -69,7 +69,7 @@ names_of r = three (listed_names r attribute_table)
 
 -- of an element that is not known, nothing
 abbrev pub nothing_listed : Listed
-nothing_listed = record { x = Nothing; y = Nothing; z = Nothing; other = true }
+nothing_listed = record { x = None; y = None; z = None; other = true }
 
 abbrev pub listed_by : List ℕ → ℕ → Three → Listed
 listed_by s first t = listed_in s first t.x t.y t.z
@@ -84,7 +84,7 @@ abbrev pub listed_numbers : Listed → List ℕ
 listed_numbers l =
     first_number l.x ∷ after_number l.x ∷ first_number l.y ∷ after_number l.y ∷ first_number l.z ∷ after_number l.z ∷ flag_of l.other ∷ []
 
-abbrev pub place_numbers : Place → List ℕ
+abbrev pub place_numbers : Option Place → List ℕ
 place_numbers p = first_number p ∷ after_number p ∷ []
 
 -- of the element that begins at `first` and has this role
@@ -93,10 +93,10 @@ kept_of s first r = place_numbers (text_kept s first r) ++ listed_numbers (liste
 
 -- ---- what is held of it
 -- two numbers as a place in the document
-unfoldable pub standing : List ℕ → ℕ → ℕ → Place
-standing s a f = pick (ltb a f and leb (f - 1) (length s)) (At a (f - 1)) Nothing
+unfoldable pub standing : List ℕ → ℕ → ℕ → Option Place
+standing s a f = pick (ltb a f and leb (f - 1) (length s)) (from_to a (f - 1)) None
 
-unfoldable pub text_held : List ℕ → List ℕ → ℕ → Place
+unfoldable pub text_held : List ℕ → List ℕ → ℕ → Option Place
 text_held s w n = standing s (kept_in w n 0) (kept_in w n 1)
 
 -- which of three names it is; 3 for none of them
@@ -114,16 +114,16 @@ abbrev pub no_other : List ℕ → ℕ → Bool
 no_other w n = eqb (kept_in w n 8) 1
 
 -- where the attribute of this name stands: one that is not listed says nothing where there is no other
-unfoldable pub attribute_held : List ℕ → List ℕ → ℕ → List ℕ → Place
+unfoldable pub attribute_held : List ℕ → List ℕ → ℕ → List ℕ → Option Place
 attribute_held s w n name =
     pick (ltb (which_of name (names_of (role_in w n))) 3)
     (standing s (kept_in w n (2 + 2 * which_of name (names_of (role_in w n)))) (kept_in w n (3 + 2 * which_of name (names_of (role_in w n)))))
-    (pick (no_other w n) (At 0 0) Nothing)
+    (pick (no_other w n) (from_to 0 0) None)
 
 -- ---- what it says: the bytes there; where nothing is held, what is read of the document
-abbrev pub held_or : List ℕ → Place → List ℕ → List ℕ
-held_or s (At a e) v = part s a e
-held_or s Nothing v = v
+abbrev pub held_or : List ℕ → Option Place → List ℕ → List ℕ
+held_or s (Some p) v = part s p.first p.after
+held_or s None v = v
 
 unfoldable pub value_in : List ℕ → List ℕ → ℕ → List ℕ → List ℕ
 value_in s w n name = held_or s (attribute_held s w n name) (attribute_of s (first_in w n) name)

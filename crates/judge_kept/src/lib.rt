@@ -41,7 +41,7 @@ fn kept_number(notes: &[u32], n: usize, i: usize) -> usize
 }
 
 // The place that stands in two numbers, if it is one of the document.
-fn place_at(document: &[u8], notes: &[u32], n: usize, i: usize) -> Place
+fn place_at(document: &[u8], notes: &[u32], n: usize, i: usize) -> Option<Place>
     requires { i + 1 < kept_width }
     ensures { result ≡ standing document.now (kept_in notes.now n i) (kept_in notes.now n (i + 1)) }
 {
@@ -49,14 +49,17 @@ fn place_at(document: &[u8], notes: &[u32], n: usize, i: usize) -> Place
     let f = kept_number(notes, n, i + 1);
     if a < f {
         if f - 1 <= document.len() {
-            return Place::At(a, f - 1);
+            return Some(Place {
+                first: a,
+                after: f - 1,
+            });
         }
     }
-    Place::Nothing
+    None
 }
 
 // Where the text of element n stands, if that is kept.
-pub fn text_held(document: &[u8], notes: &[u32], n: usize) -> Place
+pub fn text_held(document: &[u8], notes: &[u32], n: usize) -> Option<Place>
     ensures { result ≡ text_held document.now notes.now n }
 {
     place_at(document, notes, n, 0)
@@ -103,7 +106,7 @@ fn slot(role: u32, name: &[u8]) -> usize
 }
 
 // Where the attribute of this name of element n stands, if that is kept.
-pub fn attribute_held(document: &[u8], notes: &[u32], n: usize, name: &[u8]) -> Place
+pub fn attribute_held(document: &[u8], notes: &[u32], n: usize, name: &[u8]) -> Option<Place>
     ensures { result ≡ attribute_held document.now notes.now n name.now }
 {
     let role = row_number(notes, n, 0) as u32;
@@ -112,9 +115,9 @@ pub fn attribute_held(document: &[u8], notes: &[u32], n: usize, name: &[u8]) -> 
         return place_at(document, notes, n, 2 + 2 * k);
     }
     if has_no_other(notes, n) {
-        return Place::At(0, 0);
+        return Some(Place { first: 0, after: 0 });
     }
-    Place::Nothing
+    None
 }
 
 // Whether a procedure asks for the text of elements of this role.
@@ -143,13 +146,13 @@ fn has_text(number: u32) -> bool
 }
 
 // The text of the element that begins at `first`, where a procedure asks for it.
-fn text_of(document: &[u8], first: usize, role: u32) -> Place
+fn text_of(document: &[u8], first: usize, role: u32) -> Option<Place>
     ensures { result ≡ text_kept document.now first role }
 {
     if has_text(role) {
         return xml_texts::plain_text(document, first);
     }
-    Place::Nothing
+    None
 }
 
 // The attributes that a role lists, of the element that begins at `first`, and whether it has others.
@@ -187,9 +190,9 @@ fn listed_of(document: &[u8], first: usize, role: u32) -> Listed
 {
     if role <= role::UNLISTED {
         return Listed {
-            x: Place::Nothing,
-            y: Place::Nothing,
-            z: Place::Nothing,
+            x: None,
+            y: None,
+            z: None,
             other: true,
         };
     }
@@ -197,10 +200,10 @@ fn listed_of(document: &[u8], first: usize, role: u32) -> Listed
 }
 
 // A place as two numbers: its first byte, and one more than the place after it.
-fn first_number(place: Place) -> u32
+fn first_number(place: Option<Place>) -> u32
     ensures { result ≡ first_number place }
 {
-    let Place::At(a, e) = place else {
+    let Some(Place { first: a, after: e }) = place else {
         return 0;
     };
     if a <= e {
@@ -211,10 +214,10 @@ fn first_number(place: Place) -> u32
     0
 }
 
-fn after_number(place: Place) -> u32
+fn after_number(place: Option<Place>) -> u32
     ensures { result ≡ after_number place }
 {
-    let Place::At(a, e) = place else {
+    let Some(Place { first: a, after: e }) = place else {
         return 0;
     };
     if a <= e {
@@ -226,7 +229,7 @@ fn after_number(place: Place) -> u32
 }
 
 // Stores a place.
-fn put_place(place: Place, notes: &mut [u32], at: usize)
+fn put_place(place: Option<Place>, notes: &mut [u32], at: usize)
     requires { at + 2 ≤ length notes.old }
     ensures { notes.new ≡ sets notes.old at (place_numbers place) }
 {
@@ -245,7 +248,7 @@ fn flag(other: bool) -> u32
 }
 
 // Stores two places, and one with a flag.
-fn put_two(x: Place, y: Place, notes: &mut [u32], at: usize)
+fn put_two(x: Option<Place>, y: Option<Place>, notes: &mut [u32], at: usize)
     requires { at + 4 ≤ length notes.old }
     ensures { notes.new ≡ sets notes.old at (place_numbers x ++ place_numbers y) }
 {
@@ -253,7 +256,7 @@ fn put_two(x: Place, y: Place, notes: &mut [u32], at: usize)
     put_place(y, notes, at + 2);
 }
 
-fn put_last(z: Place, other: bool, notes: &mut [u32], at: usize)
+fn put_last(z: Option<Place>, other: bool, notes: &mut [u32], at: usize)
     requires { at + 3 ≤ length notes.old }
     ensures { notes.new ≡ sets notes.old at (place_numbers z ++ (flag_of other ∷ [])) }
 {

@@ -1,5 +1,6 @@
 -- 19 and 20: the labeler code, and the ids whose extension is a key. One law for each branch of the code.
 -- Assumes nothing.
+use Rattle.std.specs.Prelude.{Option, None, Some, ℕ}
 use mathlib.Core.Path.{◌≡◌, refl, sym, ◌∙◌, ap}
 use mathlib.Core.Bool.{Bool, true, false}
 use mathlib.Core.List.{List}
@@ -7,8 +8,6 @@ use Prim.Native.Nat.{ℕ}
 use Rattle.text_scan.specs.Bytes.{text}
 use Rattle.text_scan.specs.Choice.{◌and◌, not}
 use Rattle.text_scan.proofs.Tests.{never, and_false}
-use Rattle.text_scan.specs.declared.Found.{Found}
-use Rattle.text_scan.specs.declared.Found.TheVariants.{At, Nothing}
 use Rattle.text_facts.specs.Strings.{is_labeler_code}
 use Rattle.judge_paths.specs.Roles.{Registrant, OrganisationId, RequestLabeler}
 use Rattle.judge_draft.specs.Drafts.{Draft, draft, parent, is, attribute, attribute_is}
@@ -22,16 +21,16 @@ use Rattle.judge_keys.specs.Keys.{labeler_id, labeler_holds, breaks19, is_labele
 
 -- ---- 19
 module _ (d : Draft) (n : ℕ) where
-  pub labeler_is : (r : Found) → r ≡ only_one (chosen d (wanted OrganisationId 1 LabelerRoot) n) → r ≡ labeler_id d n
+  pub labeler_is : (r : Option ℕ) → r ≡ only_one (chosen d (wanted OrganisationId 1 LabelerRoot) n) → r ≡ labeler_id d n
   unfolding labeler_id
   labeler_is r e = e
 
-  module _ (x : Found) (e : x ≡ labeler_id d n) where
-    pub labeler_none : x ≡ Nothing → false ≡ labeler_holds d n
+  module _ (x : Option ℕ) (e : x ≡ labeler_id d n) where
+    pub labeler_none : x ≡ None → false ≡ labeler_holds d n
     unfolding labeler_holds
     labeler_none f = rw (← e, f)
 
-    pub labeler_one : (k : ℕ) → x ≡ At k → (r : Bool) → r ≡ has_extension d k → r ≡ labeler_holds d n
+    pub labeler_one : (k : ℕ) → x ≡ Some k → (r : Bool) → r ≡ has_extension d k → r ≡ labeler_holds d n
     unfolding labeler_holds
     labeler_one k f r g = g ∙ rw (← e, f)
 
@@ -60,7 +59,7 @@ module _ (d : Draft) (organisation : ℕ) (root : List ℕ) (n : ℕ) (a : Bool)
   no_id f = rw (← e, f)
 
 -- ---- the only one with this root
-abbrev Only : Draft → Test → ℕ → Found
+abbrev Only : Draft → Test → ℕ → Option ℕ
 Only d root n = only_one (chosen d (wanted OrganisationId 1 root) (parent d n))
 
 module _ (d : Draft) (root : Test) (n p : ℕ) (e : p ≡ parent d n) (a : Bool) (f : a ≡ is_the (only_one (chosen d (wanted OrganisationId 1 root) p)) n) where

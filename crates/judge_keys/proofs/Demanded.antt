@@ -1,11 +1,11 @@
 -- 21 and 22: what is demanded of the history. One law for each branch of the code.
 -- Assumes nothing.
+use Rattle.std.specs.Prelude.{None, Some}
 use mathlib.Core.Path.{◌≡◌, refl, ◌∙◌}
 use mathlib.Core.Bool.{Bool, true, false}
 use Prim.Native.Nat.{ℕ}
 use Rattle.text_scan.specs.Choice.{pick, ◌and◌}
 use Rattle.text_scan.proofs.Tests.{and_false}
-use Rattle.text_scan.specs.declared.Found.TheVariants.{At, Nothing}
 use Rattle.judge_paths.specs.declared.DocumentType.{DocumentType}
 use Rattle.judge_paths.specs.declared.DocumentType.TheVariants.{Registration, Request}
 use Rattle.judge_draft.specs.declared.Demand.{Demand}
@@ -22,11 +22,11 @@ module _ (d : Draft) (x : Header) (t : DocumentType) (n : ℕ) where
   abbrev Elsewhere : Demand
   Elsewhere = demand_if (set_holds d x) (demands.NoKeyElsewhere t n (the x.set))
 
-  pub elsewhere_without_set : x.set ≡ Nothing → demands.Nothing ≡ Elsewhere
+  pub elsewhere_without_set : x.set ≡ None → demands.Nothing ≡ Elsewhere
   unfolding set_holds
   elsewhere_without_set g = rw g
 
-  module _ (k : ℕ) (g : x.set ≡ At k) (b : Bool) (h : b ≡ set_holds d x) where
+  module _ (k : ℕ) (g : x.set ≡ Some k) (b : Bool) (h : b ≡ set_holds d x) where
     pub elsewhere_is : b ≡ true → demands.NoKeyElsewhere t n k ≡ Elsewhere
     elsewhere_is i = rw (← h, i, g)
 
@@ -55,11 +55,11 @@ module _ (d : Draft) (x : Header) (n : ℕ) (a : Bool) (e : a ≡ is_labeler_id 
 
   -- ---- 22
   module _ (f : a ≡ true) where
-    pub other_without_set : x.set ≡ Nothing → demands.Nothing ≡ demand22 d x n
+    pub other_without_set : x.set ≡ None → demands.Nothing ≡ demand22 d x n
     unfolding demand22 set_holds
     other_without_set g = rw (← e, f, g)
 
-    module _ (k : ℕ) (g : x.set ≡ At k) (b : Bool) (h : b ≡ set_holds d x) where
+    module _ (k : ℕ) (g : x.set ≡ Some k) (b : Bool) (h : b ≡ set_holds d x) where
       pub other_is : b ≡ true → demands.NoOtherKey n k ≡ demand22 d x n
       unfolding demand22
       other_is i = rw (← e, f, ← h, i, g)

@@ -1,9 +1,8 @@
 -- Procedures 19 to 22 (document 01, "Organisations"): the labeler code, and the keys of the history.
 -- Assumes nothing.
-use Rattle.std.specs.Prelude.{ℕ, Bool}
+use Rattle.std.specs.Prelude.{ℕ, Bool, Option}
 use Rattle.text_scan.specs.Choice.{pick, ◌and◌, not}
 use Rattle.text_scan.specs.Bytes.{text}
-use Rattle.text_scan.specs.declared.Found.{Found}
 use Rattle.text_facts.specs.Strings.{is_labeler_code}
 use Rattle.judge_paths.specs.declared.DocumentType.TheVariants.{Registration, Request}
 use Rattle.judge_paths.specs.Roles.{Registrant, OrganisationId, RequestLabeler}
@@ -18,7 +17,7 @@ use Rattle.judge_header.specs.Header.{set_holds}
 use Rattle.judge_organisations.specs.Organisations.{has_extension, duns_id, duns_holds}
 
 -- 19: the labeler of a request has one id with the root of labeler codes, and it has an extension
-unfoldable pub labeler_id : Draft → ℕ → Found
+unfoldable pub labeler_id : Draft → ℕ → Option ℕ
 labeler_id d n = only_one (chosen d (wanted OrganisationId 1 LabelerRoot) n)
 
 unfoldable pub labeler_holds : Draft → ℕ → Bool

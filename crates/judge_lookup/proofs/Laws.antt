@@ -15,7 +15,7 @@ use Rattle.text_scan.specs.Choice.{◌and◌}
 use Rattle.text_scan.specs.Bytes.{text}
 use Rattle.text_scan.proofs.Tests.{and_left, and_right}
 use Rattle.xml_reader.specs.Limits.{elements_limit, tables_limit, rows_limit}
-use Rattle.table_index.specs.declared.Lookup.TheVariants.{Code, Name, KeyElsewhere}
+use Rattle.table_index.specs.declared.Lookup.TheVariants.{KeyElsewhere}
 use Rattle.table_sets.specs.declared.Keys.{Keys}
 use Rattle.table_index.specs.Indexed.{keeps_row, Serves}
 use Rattle.table_sets.specs.SetKeys.{keys_of}

@@ -5,13 +5,13 @@ ghost use Rattle.std.specs.Prelude.{◌≡◌, true, ◌*◌, ◌<◌, ◌≤◌
 ghost use Rattle.text_scan.specs.Bytes.{text};
 ghost use Rattle.table_index.specs.Indexed.{keeps_row, Serves};
 ghost use Rattle.judge_paths.specs.Attributes.{is_role};
-ghost use Rattle.judge_draft.specs.Drafts.{draft, attribute};
+ghost use Rattle.judge_draft.specs.Drafts.{lent, attribute};
 ghost use Rattle.judge_answers.specs.Answers.{type_code, tables_at};
 ghost use Rattle.judge_answers.specs.Served.{room, run_of, CodesServed, NamesServed, KeysServed, Served};
 ghost use Rattle.judge_lookup.specs.Serving.{asking_roles, asking, is_large, Fitting, Kept, told_at};
 
 use judge_answers::{Places, SIZE};
-use judge_draft::first_byte;
+use judge_draft::Draft;
 use judge_paths::{DocumentType, role};
 use table_index::Lookup;
 use xml_reader::Reader;
@@ -36,16 +36,11 @@ fn is_asking(number: u32) -> bool
 pub fn how_many_ask(notes: &[u32]) -> usize
     ensures { result ≡ asking notes.now }
 {
-    let count = notes.len() / 4;
     let mut found = 0;
-    let mut n = 0;
-    while n < count {
+    for n in 0..notes.len() / 4 {
         if is_asking(notes[4 * n]) {
             found += 1;
-            n += 1;
-            continue;
         }
-        n += 1;
     }
     found
 }
@@ -124,8 +119,7 @@ fn serve_rows(tables: &[u8], places: Places, index: &mut [u32])
 
 // Indexes the keys of the history's rows of this type under another set id than that of element `set`.
 fn fill_keys_of(
-    document: &[u8],
-    notes: &[u32],
+    draft: Draft,
     tables: &[u8],
     places: Places,
     code: &[u8],
@@ -133,11 +127,11 @@ fn fill_keys_of(
     index: &mut [u32],
 )
     requires { (3 * room ≤ length index.old) × Fitting tables.now places.nhistory index.old }
-    ensures { KeysServed code.now (attribute (draft document.now notes.now) set (text "root")) tables.now places (run_of index.new 2) × Kept 2 index.old index.new }
+    ensures { KeysServed code.now (attribute (lent draft.entry) set (text "root")) tables.now places (run_of index.new 2) × Kept 2 index.old index.new }
 {
     let mut room = [0u8; Reader::VALUE];
-    let at = first_byte(document, notes, set);
-    let id = xml_values::attribute(document, at, b"root", &mut room);
+    let at = draft.first_byte(set);
+    let id = xml_values::attribute(draft.document, at, b"root", &mut room);
     fill_part(
         Lookup::KeyElsewhere,
         tables,
@@ -152,8 +146,7 @@ fn fill_keys_of(
 
 // The same of a type.
 fn fill_keys(
-    document: &[u8],
-    notes: &[u32],
+    draft: Draft,
     tables: &[u8],
     places: Places,
     kind: DocumentType,
@@ -161,33 +154,22 @@ fn fill_keys(
     index: &mut [u32],
 )
     requires { (3 * room ≤ length index.old) × Fitting tables.now places.nhistory index.old }
-    ensures { KeysServed (type_code kind) (attribute (draft document.now notes.now) set (text "root")) tables.now places (run_of index.new 2) × Kept 2 index.old index.new }
+    ensures { KeysServed (type_code kind) (attribute (lent draft.entry) set (text "root")) tables.now places (run_of index.new 2) × Kept 2 index.old index.new }
 {
     match kind {
-        DocumentType::Neither => fill_keys_of(document, notes, tables, places, b"", set, index),
-        DocumentType::Registration => fill_keys_of(
-            document, notes, tables, places, b"51725-0", set, index,
-        ),
-        DocumentType::Request => fill_keys_of(
-            document, notes, tables, places, b"51726-8", set, index,
-        ),
+        DocumentType::Neither => fill_keys_of(draft, tables, places, b"", set, index),
+        DocumentType::Registration => fill_keys_of(draft, tables, places, b"51725-0", set, index),
+        DocumentType::Request => fill_keys_of(draft, tables, places, b"51726-8", set, index),
     }
 }
 
 // The places, with the type, and with what the history tells of the keys of the set id of element `set`.
-fn told(
-    document: &[u8],
-    notes: &[u32],
-    tables: &[u8],
-    places: Places,
-    kind: DocumentType,
-    set: usize,
-) -> Places
-    ensures { result ≡ told_at (draft document.now notes.now) tables.now places kind set }
+fn told(draft: Draft, tables: &[u8], places: Places, kind: DocumentType, set: usize) -> Places
+    ensures { result ≡ told_at (lent draft.entry) tables.now places kind set }
 {
     let mut room = [0u8; Reader::VALUE];
-    let at = first_byte(document, notes, set);
-    let id = xml_values::attribute(document, at, b"root", &mut room);
+    let at = draft.first_byte(set);
+    let id = xml_values::attribute(draft.document, at, b"root", &mut room);
     let keys = table_sets::keys_of(tables, places.history, places.nhistory, b"51726-8", id);
     Places {
         codes: places.codes,
@@ -205,8 +187,7 @@ fn told(
 
 // Fills the run for a type and the setId of number `set`, and answers the places with what is told of its keys.
 pub fn serve(
-    document: &[u8],
-    notes: &[u32],
+    draft: Draft,
     tables: &[u8],
     places: Places,
     kind: DocumentType,
@@ -214,9 +195,9 @@ pub fn serve(
     index: &mut [u32],
 ) -> Places
     requires { (3 * room ≤ length index.old) × Fitting tables.now places.ncodes index.old × Fitting tables.now places.nnames index.old × Fitting tables.now places.nhistory index.old }
-    ensures { (tables_at tables.now result ≡ tables_at tables.now places) × Served (draft document.now notes.now) tables.now result index.new }
+    ensures { (tables_at tables.now result ≡ tables_at tables.now places) × Served (lent draft.entry) tables.now result index.new }
 {
     serve_rows(tables, places, index);
-    fill_keys(document, notes, tables, places, kind, set, index);
-    told(document, notes, tables, places, kind, set)
+    fill_keys(draft, tables, places, kind, set, index);
+    told(draft, tables, places, kind, set)
 }

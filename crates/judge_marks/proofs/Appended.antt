@@ -1,5 +1,8 @@
 -- The list is filled one record at a time: what is still to be written is told of the digits that are left.
 -- Assumes nothing.
+use Rattle.std.specs.Prelude.{Ok}
+use Rattle.refusals.specs.declared.Reason.TheVariants.{ShortList}
+use Rattle.refusals.specs.Numbers.{refuses}
 use mathlib.Core.Path.{◌≡◌, refl, sym, ◌∙◌, ap}
 use mathlib.Core.Bool.{Bool, true, false}
 use mathlib.Core.List.{List, [], ◌∷◌, ◌++◌}
@@ -19,7 +22,6 @@ use Rattle.list_writer.specs.Listed.{list_after, count_after}
 use Rattle.judge_draft.specs.Drafts.{Draft, draft, role}
 use Rattle.judge_procedures.specs.Procedures.{asked_at}
 use Rattle.judge_findings.specs.Listed.{finding}
-use Rattle.judge_findings.specs.declared.Answer.TheVariants.{Findings, Refused}
 use Rattle.judge_findings.specs.Room.{answer_in, list_in, FindingsLeft}
 use Rattle.judge_asked.specs.Asked.{most, asked_row}
 use Rattle.judge_marks.specs.Marks.{pushed, ones, marked, marked_at, marked_from, marked_in}
@@ -52,31 +54,28 @@ unfolding ones
 ones_over zero m g = refl
 ones_over (suc k) m g = absurd (omega arith)
 
-pub record Counted (mark m left found : ℕ) : Type 0 where
-  pub sum : ones most mark ≡ found + ones left m
-  pub few : found + left ≤ most
+pub record Counted (mark m i found : ℕ) : Type 0 where
+  pub sum : ones most mark ≡ found + ones (most - i) m
+  pub few : found ≤ i
 
-pub counted_start : (mark : ℕ) → Counted mark mark most 0
+pub counted_start : (mark : ℕ) → Counted mark mark 0 0
 counted_start mark = record { sum = omega arith; few = omega arith }
 
-module _ (mark m left found : ℕ) (l : Counted mark m left found) where
-  pub counted_over : left ≤ 0 → found ≡ ones most mark
-  counted_over h = omega (arith, l.sum, ones_over left m h)
+module _ (mark m i found : ℕ) (l : Counted mark m i found) where
+  pub counted_over : most ≤ i → found ≡ ones most mark
+  counted_over h = omega (arith, l.sum, ones_over (most - i) m (omega arith))
 
-  module _ (h : 0 < left) where
+  module _ (h : i < most) where
     pub counted_none : m ≡ 0 → found ≡ ones most mark
-    counted_none e = omega (arith, l.sum, ap (ones left) e, no_ones left)
+    counted_none e = omega (arith, l.sum, ap (ones (most - i)) e, no_ones (most - i))
 
-    pub counted_fits : Fits w64 (found + 1)
+    pub counted_fits : Fits w64 (found + m % 2)
     counted_fits = omega (arith, l.few)
 
-    pub counted_one : m % 2 ≡ 1 → Counted mark (m / 2) (left - 1) (found + 1)
-    counted_one e = record { sum = omega (arith, l.sum, ones_here left m h); few = omega (arith, l.few) }
-
-    pub counted_no : (m % 2 ≡ 1 → ⊥) → Counted mark (m / 2) (left - 1) found
-    counted_no e =
-        let z : m % 2 ≡ 0 = omega arith in
-        record { sum = omega (arith, l.sum, ones_here left m h); few = omega (arith, l.few) }
+    pub counted_next : Counted mark (m / 2) (i + 1) (found + m % 2)
+    counted_next =
+        let z : most - i - 1 ≡ most - (i + 1) = omega arith in
+        record { sum = omega (arith, l.sum, rw z at (ones_here (most - i) m (omega arith))); few = omega (arith, l.few) }
 
 -- ---- the record
 module _ (s notes : List ℕ) (n p f a : ℕ) where
@@ -267,13 +266,13 @@ module _ (s notes marks before : List ℕ) where
           record { to_write = towrite_next (draft s notes) (take (length notes / 4) marks) before list n count l.to_write inside after c (e ∙ rw at) (f ∙ rw at) }
 
 module _ (found : List Finding) (list : List ℕ) (total : ℕ) (e : total ≡ length found) where
-  pub too_many : length list / width < total → FindingsLeft found list (Refused 11 total) list
+  pub too_many : length list / width < total → FindingsLeft found list (refuses ShortList total) list
   unfolding answer_in list_in
   too_many g =
       let f = lt-leb total (length list / width) g in
       record { answers = rw (← e, f); lists = rw (← e, f) }
 
-  pub all_written : total ≤ length list / width → (after : List ℕ) → after ≡ filled found list → FindingsLeft found list (Findings total) after
+  pub all_written : total ≤ length list / width → (after : List ℕ) → after ≡ filled found list → FindingsLeft found list (Ok total) after
   unfolding answer_in list_in
   all_written g after h =
       let f = le-leb total (length list / width) g in

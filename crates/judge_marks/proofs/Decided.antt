@@ -14,5 +14,5 @@ how_many_decided κs a x y s t = only
 pub answer_decided : Answers answer.Kinds.ps answer.Kinds.r answer.Reads.Post
 answer_decided κs a x y s t p q = only p.answers q.answers
 
-pub answer_list : Decides answer.Kinds.ps answer.Kinds.r answer.Reads.Post (λ κs x s. s.1.1.1.1.0.now)
+pub answer_list : Decides answer.Kinds.ps answer.Kinds.r answer.Reads.Post (λ κs x s. s.1.1.1.0.now)
 answer_list κs a x y s t p q = only p.lists q.lists

@@ -1,5 +1,7 @@
 -- The findings of a draft, one law for each branch: the tables by their index, the list by its marks.
 -- Assumes nothing.
+use Rattle.std.specs.Prelude.{Result}
+use Rattle.refusals.specs.declared.Refusal.{Refusal}
 use mathlib.Core.Path.{◌≡◌, refl, sym, ◌∙◌, ap, subst}
 use mathlib.Core.Bool.{Bool}
 use mathlib.Core.List.{List, []}
@@ -13,7 +15,6 @@ use Rattle.judge_header.specs.declared.Header.{Header}
 use Rattle.judge_header.specs.Header.{header_of}
 use Rattle.judge_answers.specs.declared.Places.{Places}
 use Rattle.judge_answers.specs.Served.{run_of, Served}
-use Rattle.judge_findings.specs.declared.Answer.{Answer}
 use Rattle.judge_findings.specs.Listed.{broken, listed, findings_of}
 use Rattle.judge_findings.specs.Room.{FindingsLeft}
 use Rattle.judge_marks.specs.Marks.{marks_of, marked_from, marked_in}
@@ -21,7 +22,7 @@ use Rattle.judge_marks.proofs.Told.{marks_told}
 use Rattle.judge_asking.proofs.Filled.{not_found}
 
 -- ---- the tables by their index
-pub served_left : (d : Draft) (u v : Tables) → u ≡ v → (list : List ℕ) (r : Answer) (after : List ℕ) → FindingsLeft (findings_of d u) list r after → FindingsLeft (findings_of d v) list r after
+pub served_left : (d : Draft) (u v : Tables) → u ≡ v → (list : List ℕ) (r : Result ℕ Refusal) (after : List ℕ) → FindingsLeft (findings_of d u) list r after → FindingsLeft (findings_of d v) list r after
 served_left d u v e list r after f = subst (λ t. FindingsLeft (findings_of d t) list r after) e f
 
 -- an empty run is not asked
@@ -74,5 +75,5 @@ module _ (s notes : List ℕ) (h : Header) (e : h ≡ header_of (draft s notes))
   pub all_told : (total : ℕ) → total ≡ length (listed (draft s notes) (broken (draft s notes) h t)) → total ≡ length (marked_in s notes marks)
   all_told total g = g ∙ ap length (sym told)
 
-  pub draft_left : (list : List ℕ) (r : Answer) (after : List ℕ) → FindingsLeft (marked_in s notes marks) list r after → FindingsLeft (findings_of (draft s notes) t) list r after
+  pub draft_left : (list : List ℕ) (r : Result ℕ Refusal) (after : List ℕ) → FindingsLeft (marked_in s notes marks) list r after → FindingsLeft (findings_of (draft s notes) t) list r after
   draft_left list r after g = subst (λ x. FindingsLeft x list r after) found g

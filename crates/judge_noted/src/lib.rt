@@ -3,7 +3,7 @@
 
 ghost use Rattle.std.specs.Prelude.{◌≡◌, ◌*◌, ◌/◌, ◌≤◌, length};
 ghost use Rattle.xml_reader.specs.Limits.{elements_limit};
-ghost use Rattle.judge_draft.specs.Drafts.{draft};
+ghost use Rattle.judge_draft.specs.Drafts.{lent};
 ghost use Rattle.judge_header.specs.Header.{header_of};
 ghost use Rattle.judge_answers.specs.Answers.{tables_at};
 ghost use Rattle.judge_answers.specs.Served.{room, Served};
@@ -12,91 +12,85 @@ ghost use Rattle.judge_findings.specs.Listed.{findings_of};
 ghost use Rattle.judge_findings.specs.Room.{FindingsLeft};
 
 use judge_answers::{Places, SIZE};
-use judge_findings::Answer;
+use judge_draft::Draft;
 use judge_header::Header;
+use refusals::Refusal;
 
 // Marks each element, and answers by the marks.
 fn judge_served(
-    document: &[u8],
-    notes: &[u32],
+    draft: Draft,
     header: Header,
     tables: &[u8],
     places: Places,
     index: &[u32],
     marks: &mut [u64],
     list: &mut [u32],
-) -> Answer
-    requires { (header ≡ header_of (draft document.now notes.now)) × (length notes.now / 4 ≤ length marks.old) × (length marks.old ≤ elements_limit) × Served (draft document.now notes.now) tables.now places index.now }
-    ensures { FindingsLeft (findings_of (draft document.now notes.now) (tables_at tables.now places)) list.old result list.new }
+) -> Result<usize, Refusal>
+    requires { (header ≡ header_of (lent draft)) × (length draft.notes.now / 4 ≤ length marks.old) × (length marks.old ≤ elements_limit) × Served (lent draft) tables.now places index.now }
+    ensures { FindingsLeft (findings_of (lent draft.entry) (tables_at tables.now places)) list.old result list.new }
 {
-    let total = judge_asking::fill(document, notes, header, tables, places, index, marks);
-    judge_marks::answer(document, notes, marks, total, list)
+    let total = judge_asking::fill(draft, header, tables, places, index, marks);
+    judge_marks::answer(draft, marks, total, list)
 }
 
 // The same, with the rows of the tables indexed before, in a run that is lent.
 fn judge_by(
-    document: &[u8],
-    notes: &[u32],
+    draft: Draft,
     header: Header,
     tables: &[u8],
     places: Places,
     index: &mut [u32],
     marks: &mut [u64],
     list: &mut [u32],
-) -> Answer
-    requires { (header ≡ header_of (draft document.now notes.now)) × (length notes.now / 4 ≤ length marks.old) × (length marks.old ≤ elements_limit) × (3 * room ≤ length index.old) × Sized tables.now places }
-    ensures { FindingsLeft (findings_of (draft document.now notes.now) (tables_at tables.now places)) list.old result list.new }
+) -> Result<usize, Refusal>
+    requires { (header ≡ header_of (lent draft)) × (length draft.notes.now / 4 ≤ length marks.old) × (length marks.old ≤ elements_limit) × (3 * room ≤ length index.old) × Sized tables.now places }
+    ensures { FindingsLeft (findings_of (lent draft.entry) (tables_at tables.now places)) list.old result list.new }
 {
     let one = header.set;
     let set = judge_header::the(one);
     let kind = places.kind;
-    let served = judge_lookup::serve(document, notes, tables, places, kind, set, index);
-    judge_served(document, notes, header, tables, served, index, marks, list)
+    let served = judge_lookup::serve(draft, tables, places, kind, set, index);
+    judge_served(draft, header, tables, served, index, marks, list)
 }
 
 // The same in a run of its own.
 fn judge_indexed(
-    document: &[u8],
-    notes: &[u32],
+    draft: Draft,
     header: Header,
     tables: &[u8],
     places: Places,
     marks: &mut [u64],
     list: &mut [u32],
-) -> Answer
-    requires { (header ≡ header_of (draft document.now notes.now)) × (length notes.now / 4 ≤ length marks.old) × (length marks.old ≤ elements_limit) × Sized tables.now places }
-    ensures { FindingsLeft (findings_of (draft document.now notes.now) (tables_at tables.now places)) list.old result list.new }
+) -> Result<usize, Refusal>
+    requires { (header ≡ header_of (lent draft)) × (length draft.notes.now / 4 ≤ length marks.old) × (length marks.old ≤ elements_limit) × Sized tables.now places }
+    ensures { FindingsLeft (findings_of (lent draft.entry) (tables_at tables.now places)) list.old result list.new }
 {
     let mut index = [0u32; 3 * SIZE];
-    judge_by(
-        document, notes, header, tables, places, &mut index, marks, list,
-    )
+    judge_by(draft, header, tables, places, &mut index, marks, list)
 }
 
 // The findings of a draft, by an index of the tables where that is worth it.
 pub fn judge(
-    document: &[u8],
-    notes: &[u32],
+    draft: Draft,
     tables: &[u8],
     places: Places,
     marks: &mut [u64],
     list: &mut [u32],
-) -> Answer
-    requires { (length notes.now / 4 ≤ length marks.old) × (length marks.old ≤ elements_limit) }
-    ensures { FindingsLeft (findings_of (draft document.now notes.now) (tables_at tables.now places)) list.old result list.new }
+) -> Result<usize, Refusal>
+    requires { (length draft.notes.now / 4 ≤ length marks.old) × (length marks.old ≤ elements_limit) }
+    ensures { FindingsLeft (findings_of (lent draft.entry) (tables_at tables.now places)) list.old result list.new }
 {
-    let header = judge_header::header_of(document, notes);
-    let asked = judge_lookup::how_many_ask(notes);
+    let header = judge_header::header_of(draft);
+    let asked = judge_lookup::how_many_ask(draft.notes);
     if judge_lookup::is_large(asked, tables.len(), places) {
-        return judge_indexed(document, notes, header, tables, places, marks, list);
+        return judge_indexed(draft, header, tables, places, marks, list);
     }
     judge_served(
-        document,
-        notes,
+        draft,
         header,
         tables,
         places,
-        &notes[0..0],
+        &draft.notes[0..0],
         marks,
         list,
     )

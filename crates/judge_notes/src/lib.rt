@@ -98,11 +98,9 @@ fn fill_all(document: &[u8], elements: &[u32], kind: DocumentType, notes: &mut [
     requires { 4 * (length elements.now / 4) ≤ length notes.old }
     ensures { notes.new ≡ notes_of document.now elements.now kind ++ drop (4 * (length elements.now / 4)) notes.old }
 {
-    let count = elements.len() / 4;
     let mut parent = 0;
     let mut above = role::ROOT;
-    let mut k = 0;
-    while k < count {
+    for k in 0..elements.len() / 4 {
         let next = row_number(elements, k, 1);
         let end = 4 * k;
         above = role_at(
@@ -117,7 +115,6 @@ fn fill_all(document: &[u8], elements: &[u32], kind: DocumentType, notes: &mut [
         parent = next;
         let own = role_in(document, elements, kind, k, above);
         put_note(elements, k, own, notes);
-        k += 1;
     }
 }
 

@@ -1,12 +1,11 @@
 -- Operation codes, 33 and 34: one law for each branch of the code.
 -- Assumes nothing.
+use Rattle.std.specs.Prelude.{Option, None, Some, ℕ}
 use mathlib.Core.Path.{◌≡◌, ◌∙◌}
 use mathlib.Core.Bool.{Bool, true, false}
 use Prim.Native.Nat.{ℕ}
 use Rattle.text_scan.specs.Choice.{not}
 use Rattle.text_scan.specs.Bytes.{text}
-use Rattle.text_scan.specs.declared.Found.{Found}
-use Rattle.text_scan.specs.declared.Found.TheVariants.{At, Nothing}
 use Rattle.judge_paths.specs.Roles.{Entity4, OperationCode}
 use Rattle.judge_draft.specs.declared.Demand.TheVariants.{CodeRow, Nothing as Free}
 use Rattle.judge_tests.specs.declared.Test.TheVariants.{Any}
@@ -41,12 +40,12 @@ module _ (d : Draft) (n : ℕ) (a : Bool) (e : a ≡ is d Entity4 n) where
   unfolding breaks33
   other_33 f = rw (← e, f)
 
-  module _ (f : a ≡ true) (x : Found) (g : x ≡ only_one (chosen d (wanted OperationCode 3 Any) n)) where
-    pub none_33 : x ≡ Nothing → true ≡ breaks33 d n
+  module _ (f : a ≡ true) (x : Option ℕ) (g : x ≡ only_one (chosen d (wanted OperationCode 3 Any) n)) where
+    pub none_33 : x ≡ None → true ≡ breaks33 d n
     unfolding breaks33
     none_33 h = rw (← e, f, ← g, h)
 
-    pub one_33 : (k : ℕ) → x ≡ At k → (r : Bool) → r ≡ is_agency d k → not r ≡ breaks33 d n
+    pub one_33 : (k : ℕ) → x ≡ Some k → (r : Bool) → r ≡ is_agency d k → not r ≡ breaks33 d n
     unfolding breaks33
     one_33 k h r i = rw (← e, f, ← g, h, ← i)
 

@@ -1,12 +1,11 @@
 -- 17 and 18: the name of an organisation. One law for each branch of the code.
 -- Assumes nothing.
+use Rattle.std.specs.Prelude.{Option, None, Some, ℕ}
 use mathlib.Core.Path.{◌≡◌, sym, ◌∙◌, ap}
 use mathlib.Core.Bool.{Bool, true, false}
 use Prim.Native.Nat.{ℕ}
 use Rattle.text_scan.specs.Choice.{◌and◌, not}
 use Rattle.text_scan.proofs.Tests.{and_true, and_false, and_right}
-use Rattle.text_scan.specs.declared.Found.{Found}
-use Rattle.text_scan.specs.declared.Found.TheVariants.{At, Nothing}
 use Rattle.judge_paths.specs.Roles.{OrganisationName}
 use Rattle.judge_draft.specs.declared.Demand.{Demand}
 use Rattle.judge_draft.specs.declared.Demand.TheVariants as demands
@@ -55,12 +54,12 @@ module _ (d : Draft) (n : ℕ) (a : Bool) (e : a ≡ is_organisation d n) where
     empty_name h r l = l ∙ rw (← e, f, ← g, h) (sym (and_true (is_one_name d n)))
 
 -- ---- 18
-module _ (d : Draft) (p n : ℕ) (x : Found) (h : x ≡ duns_id d p) where
-  pub row_without_duns : x ≡ Nothing → demands.Nothing ≡ demand_if (duns_holds d p) (demands.NameRow (the (duns_id d p)) n)
+module _ (d : Draft) (p n : ℕ) (x : Option ℕ) (h : x ≡ duns_id d p) where
+  pub row_without_duns : x ≡ None → demands.Nothing ≡ demand_if (duns_holds d p) (demands.NameRow (the (duns_id d p)) n)
   unfolding duns_holds
   row_without_duns i = rw (← h, i)
 
-  module _ (k : ℕ) (i : x ≡ At k) (b : Bool) (j : b ≡ has_extension d k) where
+  module _ (k : ℕ) (i : x ≡ Some k) (b : Bool) (j : b ≡ has_extension d k) where
     pub row_of_name : b ≡ true → demands.NameRow k n ≡ demand_if (duns_holds d p) (demands.NameRow (the (duns_id d p)) n)
     unfolding duns_holds
     row_of_name l = rw (← h, i, ← j, l)
@@ -78,7 +77,7 @@ the_name d n e =
     ∙ the_has x n (is_said d)
     ∙ ap (λ t. t and is_said d n) here
   where
-    x : Found
+    x : Option ℕ
     x = only_kid d (parent d n) OrganisationName
 
     here : is_the x n ≡ true

@@ -1,5 +1,6 @@
 -- 14 to 16: how many organisations and ids there are, and the DUNS number. One law for each branch of the code.
 -- Assumes nothing.
+use Rattle.std.specs.Prelude.{Option, None, Some, ℕ}
 use mathlib.Core.Path.{◌≡◌, ◌∙◌}
 use mathlib.Core.Bool.{Bool, true, false}
 use Prim.Native.Nat.{ℕ, ◌≤◌, ◌<◌}
@@ -8,8 +9,6 @@ use lib.Dec.{eqb, leb}
 use lib.ListN.{length}
 use Rattle.text_scan.specs.Bytes.{text}
 use Rattle.text_scan.specs.Choice.{not}
-use Rattle.text_scan.specs.declared.Found.{Found}
-use Rattle.text_scan.specs.declared.Found.TheVariants.{At, Nothing}
 use Rattle.judge_paths.specs.Roles.{Unknown, Entity1, Labeler, Entity2, Registrant, Entity3, Establishment, Entity4, Agent, OrganisationId, RequestEntity, RequestLabeler}
 use Rattle.judge_draft.specs.Drafts.{Draft, role, is, attribute, is_empty}
 use Rattle.judge_tests.specs.declared.Test.TheVariants.{Any, DunsRoot}
@@ -17,11 +16,11 @@ use Rattle.judge_below.specs.Chosen.{chosen, wanted, only_one, one, only_kid}
 use Rattle.judge_organisations.specs.Organisations.{organisation_in, breaks14, is_organisation, right_ids, breaks15, has_extension, duns_id, duns_holds, breaks16}
 
 -- ---- one child of a role
-module _ (d : Draft) (n r : ℕ) (x : Found) (e : x ≡ only_kid d n r) where
-  pub has_none : x ≡ Nothing → false ≡ one (only_kid d n r)
+module _ (d : Draft) (n r : ℕ) (x : Option ℕ) (e : x ≡ only_kid d n r) where
+  pub has_none : x ≡ None → false ≡ one (only_kid d n r)
   has_none f = rw (← e, f)
 
-  pub has_it : (k : ℕ) → x ≡ At k → true ≡ one (only_kid d n r)
+  pub has_it : (k : ℕ) → x ≡ Some k → true ≡ one (only_kid d n r)
   has_it k f = rw (← e, f)
 
 -- ---- 14
@@ -109,16 +108,16 @@ module _ (d : Draft) (n : ℕ) where
   unfolding has_extension
   extension_there r e = rw e
 
-  pub duns_is : (r : Found) → r ≡ only_one (chosen d (wanted OrganisationId 1 DunsRoot) n) → r ≡ duns_id d n
+  pub duns_is : (r : Option ℕ) → r ≡ only_one (chosen d (wanted OrganisationId 1 DunsRoot) n) → r ≡ duns_id d n
   unfolding duns_id
   duns_is r e = e
 
-  module _ (x : Found) (e : x ≡ duns_id d n) where
-    pub duns_none : x ≡ Nothing → false ≡ duns_holds d n
+  module _ (x : Option ℕ) (e : x ≡ duns_id d n) where
+    pub duns_none : x ≡ None → false ≡ duns_holds d n
     unfolding duns_holds
     duns_none f = rw (← e, f)
 
-    pub duns_one : (k : ℕ) → x ≡ At k → (r : Bool) → r ≡ has_extension d k → r ≡ duns_holds d n
+    pub duns_one : (k : ℕ) → x ≡ Some k → (r : Bool) → r ≡ has_extension d k → r ≡ duns_holds d n
     unfolding duns_holds
     duns_one k f r g = g ∙ rw (← e, f)
 

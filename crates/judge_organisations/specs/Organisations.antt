@@ -1,9 +1,8 @@
 -- Procedures 14 to 18 (document 01, "Organisations"). Procedures 15 to 18 skip the labeler of a registration.
 -- Assumes nothing.
-use Rattle.std.specs.Prelude.{ℕ, Bool, eqb, length}
+use Rattle.std.specs.Prelude.{ℕ, Bool, eqb, length, Option}
 use Rattle.text_scan.specs.Choice.{pick, ◌or◌, ◌and◌, not, between}
 use Rattle.text_scan.specs.Bytes.{text}
-use Rattle.text_scan.specs.declared.Found.{Found}
 use Rattle.judge_paths.specs.Roles.{Unknown, Entity1, Labeler, Entity2, Registrant, Entity3, Establishment, Entity4, Agent, OrganisationId, OrganisationName, RequestEntity, RequestLabeler, is_known_role}
 use Rattle.judge_draft.specs.declared.Demand.{Demand}
 use Rattle.judge_draft.specs.declared.Demand.TheVariants.{NameRow}
@@ -41,7 +40,7 @@ unfoldable pub has_extension : Draft → ℕ → Bool
 has_extension d k = not (is_empty (attribute d k (text "extension")))
 
 -- 16: the one id with the DUNS root, and it has an extension
-unfoldable pub duns_id : Draft → ℕ → Found
+unfoldable pub duns_id : Draft → ℕ → Option ℕ
 duns_id d n = only_one (chosen d (wanted OrganisationId 1 DunsRoot) n)
 
 unfoldable pub duns_holds : Draft → ℕ → Bool

@@ -23,9 +23,8 @@ fn child_in(name: &[u8], words: &[u8], lengths: &[usize], roles: &[u32]) -> u32
     ensures { result ≡ child_in words.now lengths.now roles.now name.now }
 {
     let mut at = 0;
-    let mut number = 0;
-    while number < lengths.len() {
-        let end = at + lengths[number];
+    for (number, length) in lengths.iter().enumerate() {
+        let end = at + *length;
         if text_facts::same(name, &words[at..end]) {
             if number < roles.len() {
                 return roles[number];
@@ -33,7 +32,6 @@ fn child_in(name: &[u8], words: &[u8], lengths: &[usize], roles: &[u32]) -> u32
             return role::UNKNOWN;
         }
         at = end + 1;
-        number += 1;
     }
     role::UNLISTED
 }

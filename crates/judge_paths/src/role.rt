@@ -1,4 +1,5 @@
-// As what an element is known: its role, a number. 0 and 1 are not known, all others are.
+// As what an element is known: its role, a number. 0 and 1 are not known, all others are. No enum: `child_role` and the others answer for every u32 as the
+// parent's role, which notes from elsewhere may hold, and a narrower type would ask more of their callers.
 // Not judged: inside an unlisted element, or inside author without a type.
 pub const UNKNOWN: u32 = 0;
 

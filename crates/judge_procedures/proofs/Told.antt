@@ -1,13 +1,13 @@
 -- The arms of the code: what procedure p demands where it is the one of a row, and where it is of none.
 -- Assumes nothing.
 use mathlib.Core.Path.{◌≡◌, refl, sym, ◌∙◌, ap}
-use mathlib.Core.Bool.{Bool, true, false}
+use mathlib.Core.Bool.{Bool, true}
 use mathlib.Core.List.{List, [], ◌∷◌, ◌++◌}
 use Prim.Native.Nat.{ℕ, ◌<◌, ◌≤◌}
 use native.Mathlib.Omega.{arith}
 use borrow.Author.Tests.{ne_eqb, ltb-true, leb-true}
-use lib.Dec.{eqb, leb, ltb}
-use Rattle.text_scan.specs.Choice.{pick, ◌and◌}
+use lib.Dec.{leb, ltb}
+use Rattle.text_scan.specs.Choice.{◌and◌}
 use Rattle.text_scan.proofs.Tests.{and_left, and_right}
 use Rattle.judge_draft.specs.declared.Demand.{Demand}
 use Rattle.judge_draft.specs.declared.Demand.TheVariants.{Nothing}

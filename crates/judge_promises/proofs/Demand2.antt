@@ -1,10 +1,11 @@
 -- Demand 2 (law `demand_2`): if a check answers n findings, then the record of a procedure and an element stands among the first n of its list
 -- exactly if the procedure is broken there, and n is 0 exactly if nothing is. The laws before it are those of the list which is told of a draft.
 -- Assumes nothing.
+use Rattle.std.specs.Prelude.{Ok}
 use mathlib.Core.Path.{◌≡◌, refl, sym, ◌∙◌, ap}
 use mathlib.Core.Bool.{true, false}
 use mathlib.Core.List.{List, [], ◌∷◌}
-use Prim.Native.Nat.{ℕ, ◌-◌, ◌*◌, ◌/◌, ◌<◌, ◌≤◌}
+use Prim.Native.Nat.{ℕ, ◌*◌, ◌/◌, ◌<◌, ◌≤◌}
 use native.Mathlib.Omega.{arith}
 use lib.ListN.{length, take, drop, length-append}
 use lib.Seq.{take-append_seam}
@@ -24,7 +25,6 @@ use Rattle.judge_findings.specs.Holding.{Judged, Holds, InDocumentOrder}
 use Rattle.judge_findings.proofs.Listed.{held_exactly, listed_holds, empty_unbroken, unbroken_empty}
 use Rattle.judge_notes.proofs.Noted.{notes_length, note_first, note_after}
 use Rattle.judge_type.specs.Drafted.{draft_as, type_in, draft_of}
-use Rattle.judge_findings.specs.declared.Answer.TheVariants.{Findings}
 use Rattle.judge_check.specs.Check.{check_of}
 use Rattle.judge_check.specs.Accepted.{found_in, Accepted}
 use Rattle.judge_check.proofs.Accepted.{accepted_check}
@@ -98,5 +98,5 @@ module _ (s file list : List ℕ) (n : ℕ) (after : List ℕ) (a : Accepted s f
         clean = λ f. a.many ∙ ap length (nothing_empty s a.count a.rows a.read file f);
       }
 
-pub demand_2 : (s file scratch table list : List ℕ) (n : ℕ) → (check_of s file scratch table list).answer ≡ Findings n → Right s file n (check_of s file scratch table list).list
+pub demand_2 : (s file scratch table list : List ℕ) (n : ℕ) → (check_of s file scratch table list).answer ≡ Ok n → Right s file n (check_of s file scratch table list).list
 demand_2 s file scratch table list n e = all_right s file list n (check_of s file scratch table list).list (accepted_check s file scratch table list n e)

@@ -1,5 +1,6 @@
 -- Demand 3, of checks that are not refused: the merge of the lists under two files is accepted, and is the list of the check under their join.
 -- Assumes nothing.
+use Rattle.std.specs.Prelude.{None, Ok}
 use mathlib.Core.Path.{◌≡◌, sym, ◌∙◌, ap}
 use mathlib.Core.Bool.{true}
 use mathlib.Core.List.{List}
@@ -8,9 +9,7 @@ use native.Mathlib.Omega.{arith}
 use borrow.Author.Tests.{le-leb}
 use lib.ListN.{length, take, drop}
 use lib.Seq.{take-append_seam}
-use Rattle.text_scan.specs.declared.Found.TheVariants.{Nothing}
 use Rattle.list_findings.specs.declared.Finding.{Finding}
-use Rattle.list_findings.specs.declared.Merged.TheVariants.{Findings as MergedFindings}
 use Rattle.list_findings.specs.Findings.{width, flat, filled}
 use Rattle.list_findings.specs.Merge.{Merging as Merging, first_bad_record, merged, first_fault, merge_of}
 use Rattle.list_findings.proofs.Records.{records_flat, length_flat}
@@ -20,11 +19,10 @@ use Rattle.table_file.specs.Accepted.{tables_of}
 use Rattle.table_join.specs.Joins.{Joins}
 use Rattle.xml_steps.specs.Reading.{elements}
 use Rattle.xml_elements.specs.Elements.{elements_of}
-use Rattle.judge_findings.specs.declared.Answer.TheVariants.{Findings}
 use Rattle.judge_type.specs.Drafted.{draft_of}
 use Rattle.judge_check.specs.Check.{Outcome as Checked, check_of}
 use Rattle.judge_check.specs.Accepted.{found_in, Accepted}
-use Rattle.judge_both.specs.Both.{as_answer, merge_second, check_second, both_of}
+use Rattle.judge_both.specs.Both.{merge_second, check_second, both_of}
 use Rattle.judge_both.proofs.Steps.{front_there}
 use Rattle.judge_check.proofs.Accepted.{accepted_check}
 use Rattle.judge_promises.proofs.Demand2.{in_order}
@@ -42,11 +40,11 @@ same_rows i j x y e = cc
 
 -- ---- a list of the check is never refused by the merge with another list of the same document: 12 and 13 cannot come
 module _ (s : List ℕ) (k : ℕ) (rows : List ℕ) (e : elements_of s ≡ elements k rows) where
-  pub never_12 : (a : List ℕ) → first_bad_record (flat (found_in s rows a)) ≡ Nothing
+  pub never_12 : (a : List ℕ) → first_bad_record (flat (found_in s rows a)) ≡ None
   unfolding found_in
   never_12 a = never_bad (draft_of s rows) (in_order s k rows e) (tables_of a)
 
-  pub never_13 : (a b : List ℕ) → first_fault (found_in s rows a) (found_in s rows b) ≡ Nothing
+  pub never_13 : (a b : List ℕ) → first_fault (found_in s rows a) (found_in s rows b) ≡ None
   unfolding found_in
   never_13 a b = never_faulty (draft_of s rows) (in_order s k rows e) (tables_of a) (tables_of b)
 
@@ -55,7 +53,7 @@ module _ (s : List ℕ) (k : ℕ) (rows : List ℕ) (e : elements_of s ≡ eleme
   joined_found c a b j = findings_joined (draft_of s rows) (in_order s k rows e) c a b j
 
   -- the merge of the two lists, with room for the third
-  merge_is : (c a b : List ℕ) → Joins c a b → (out : List ℕ) → length (found_in s rows c) ≤ length out / width → merge_of (flat (found_in s rows a)) (flat (found_in s rows b)) out ≡ record { answer = MergedFindings (length (found_in s rows c)); list = filled (found_in s rows c) out }
+  merge_is : (c a b : List ℕ) → Joins c a b → (out : List ℕ) → length (found_in s rows c) ≤ length out / width → merge_of (flat (found_in s rows a)) (flat (found_in s rows b)) out ≡ record { answer = Ok (length (found_in s rows c)); list = filled (found_in s rows c) out }
   unfolding merge_of
   merge_is c a b j out h =
       rw (never_12 a, never_12 b, records_flat (found_in s rows a), records_flat (found_in s rows b), never_13 a b, joined_found c a b j, le-leb (length (found_in s rows c)) (length out / width) h)
@@ -63,13 +61,13 @@ module _ (s : List ℕ) (k : ℕ) (rows : List ℕ) (e : elements_of s ≡ eleme
 merge_alike : {u v u' v' : List ℕ} (out : List ℕ) → u ≡ u' → v ≡ v' → merge_of u v out ≡ merge_of u' v' out
 merge_alike out e f = rw (e, f)
 
-merging_is : (k : ℕ) (after : List ℕ) (found : List Finding) (out : List ℕ) → k ≡ length found → after ≡ filled found out → ◌≡◌ {A = Merging} (record { answer = MergedFindings k; list = after }) (record { answer = MergedFindings (length found); list = filled found out })
+merging_is : (k : ℕ) (after : List ℕ) (found : List Finding) (out : List ℕ) → k ≡ length found → after ≡ filled found out → ◌≡◌ {A = Merging} (record { answer = Ok k; list = after }) (record { answer = Ok (length found); list = filled found out })
 merging_is k after found out e f = rw (e, f)
 
 -- ---- demand 3
 module _ (s c a b : List ℕ) (j : Joins c a b) (scratch table first scratch' table' second scratch'' table'' out : List ℕ) where
-  pub demand_3 : (n m k : ℕ) → (check_of s a scratch table first).answer ≡ Findings n → (check_of s b scratch' table' second).answer ≡ Findings m → (check_of s c scratch'' table'' out).answer ≡ Findings k
-      → merge_of (take (n * width) (check_of s a scratch table first).list) (take (m * width) (check_of s b scratch' table' second).list) out ≡ record { answer = MergedFindings k; list = (check_of s c scratch'' table'' out).list }
+  pub demand_3 : (n m k : ℕ) → (check_of s a scratch table first).answer ≡ Ok n → (check_of s b scratch' table' second).answer ≡ Ok m → (check_of s c scratch'' table'' out).answer ≡ Ok k
+      → merge_of (take (n * width) (check_of s a scratch table first).list) (take (m * width) (check_of s b scratch' table' second).list) out ≡ record { answer = Ok k; list = (check_of s c scratch'' table'' out).list }
   demand_3 n m k e f g =
       let x = accepted_check s a scratch table first n e in
       let y = accepted_check s b scratch' table' second m f in
@@ -83,9 +81,9 @@ module _ (s c a b : List ℕ) (j : Joins c a b) (scratch table first scratch' ta
 
 -- ---- in code: with room for the records of both, what the two checks and the merge answer and write is what the check under the joined file answers and writes
 module _ (s c a b : List ℕ) (j : Joins c a b) (scratch table list : List ℕ) (records : List Finding) (out scratch' table' : List ℕ) (n m k : ℕ)
-    (e : (check_of s a scratch table list).answer ≡ Findings n)
-    (f : (check_of s b (check_of s a scratch table list).scratch (check_of s a scratch table list).table (check_of s a scratch table list).list).answer ≡ Findings m)
-    (g : (check_of s c scratch' table' out).answer ≡ Findings k) (h : n + m ≤ length records) where
+    (e : (check_of s a scratch table list).answer ≡ Ok n)
+    (f : (check_of s b (check_of s a scratch table list).scratch (check_of s a scratch table list).table (check_of s a scratch table list).list).answer ≡ Ok m)
+    (g : (check_of s c scratch' table' out).answer ≡ Ok k) (h : n + m ≤ length records) where
   abbrev one : Checked
   one = check_of s a scratch table list
 
@@ -102,7 +100,7 @@ module _ (s c a b : List ℕ) (j : Joins c a b) (scratch table list : List ℕ) 
       let i = front_there s b one.scratch one.table one.list m f in
       rw (kept_long one.list n records 0, le-leb m (length other.list / width) (omega arith), le-leb (n + m) (length records) h)
 
-  merges : merge_second other.list m (kept_in one.list n records 0) n out ≡ record { answer = MergedFindings k; list = (check_of s c scratch' table' out).list }
+  merges : merge_second other.list m (kept_in one.list n records 0) n out ≡ record { answer = Ok k; list = (check_of s c scratch' table' out).list }
   unfolding merge_second
   merges =
       let kept = kept_in one.list n records 0 in
@@ -114,4 +112,4 @@ module _ (s c a b : List ℕ) (j : Joins c a b) (scratch table list : List ℕ) 
 
   pub demand_3_met : ((both_of s a b scratch table list records out).answer ≡ (check_of s c scratch' table' out).answer) × ((both_of s a b scratch table list records out).out ≡ (check_of s c scratch' table' out).list)
   unfolding both_of check_second
-  demand_3_met = rw (e, first_fits, f) (ap (λ o. as_answer o.answer) merges ∙ sym g, ap (λ o. o.list) merges)
+  demand_3_met = rw (e, first_fits, f) (ap (λ o. o.answer) merges ∙ sym g, ap (λ o. o.list) merges)

@@ -1,11 +1,11 @@
 -- Demand 3: the merge of a draft's lists under two files is its list under their join, and is never refused. No procedure is named: the class of
 -- each procedure suits what it demands, and a demand is answered under the join as its class says.
 -- Assumes nothing.
+use Rattle.std.specs.Prelude.{None}
 use mathlib.Core.Path.{◌≡◌, refl}
 use mathlib.Core.Bool.{Bool}
 use mathlib.Core.List.{List}
 use Prim.Native.Nat.{ℕ}
-use Rattle.text_scan.specs.declared.Found.TheVariants.{Nothing}
 use Rattle.list_findings.specs.declared.Class.TheVariants.{DocumentOnly}
 use Rattle.list_findings.specs.Findings.{class_of, flat}
 use Rattle.list_findings.specs.Lists.{Good, stays}
@@ -16,7 +16,6 @@ use Rattle.table_join.specs.Joins.{Joins}
 use Rattle.judge_draft.specs.Drafts.{Draft, element_count}
 use Rattle.judge_header.specs.Header.{header_of}
 use Rattle.judge_procedures.specs.Procedures.{demand_of}
-use Rattle.judge_promises.specs.Suits.{suits}
 use Rattle.judge_findings.specs.Listed.{broken, findings_of}
 use Rattle.judge_findings.specs.Holding.{InDocumentOrder}
 use Rattle.judge_promises.proofs.Classes.{class_suits, document_alike, answer_joined}
@@ -34,11 +33,11 @@ module _ (d : Draft) (i : InDocumentOrder d) where
   findings_good t = listed_good d (broken d (header_of d) t) i
 
   -- refusal 12 never comes
-  pub never_bad : (t : Tables) → first_bad_record (flat (findings_of d t)) ≡ Nothing
+  pub never_bad : (t : Tables) → first_bad_record (flat (findings_of d t)) ≡ None
   never_bad t = good_flat (findings_of d t) (findings_good t)
 
   -- what asks no table is found under both files or under neither, so that refusal 13 never comes, whatever the two files are
-  pub never_faulty : (t u : Tables) → first_fault (findings_of d t) (findings_of d u) ≡ Nothing
+  pub never_faulty : (t u : Tables) → first_fault (findings_of d t) (findings_of d u) ≡ None
   unfolding findings_of
   never_faulty t u =
       rw (these_listed d ft fu fv (λ x. x.first) ft (λ n p. refl), these_listed d ft fu fv (λ x. x.second) fu (λ n p. refl)) at

@@ -1,11 +1,10 @@
 -- The agents of an establishment, 35 and 36: one law for each branch of the code.
 -- Assumes nothing.
+use Rattle.std.specs.Prelude.{Option, None, Some, ℕ}
 use mathlib.Core.Path.{◌≡◌, sym, ◌∙◌}
 use mathlib.Core.Bool.{Bool, true, false}
 use Prim.Native.Nat.{ℕ}
 use Rattle.text_scan.proofs.Tests.{and_true, and_false}
-use Rattle.text_scan.specs.declared.Found.{Found}
-use Rattle.text_scan.specs.declared.Found.TheVariants.{At, Nothing}
 use Rattle.judge_paths.specs.Roles.{Establishment, Addr, OperationCode}
 use Rattle.judge_tests.specs.declared.Test.TheVariants.{Agent, Import}
 use Rattle.judge_draft.specs.Drafts.{Draft, is, is_empty}
@@ -14,12 +13,12 @@ use Rattle.judge_addresses.specs.Addresses.{address_holds, is_usa}
 use Rattle.judge_registrations.specs.Registrations.{in_usa, breaks35, breaks36}
 
 -- ---- the country of an establishment
-module _ (d : Draft) (n : ℕ) (x : Found) (e : x ≡ only_kid d n Addr) where
-  pub usa_nowhere : x ≡ Nothing → false ≡ in_usa d n
+module _ (d : Draft) (n : ℕ) (x : Option ℕ) (e : x ≡ only_kid d n Addr) where
+  pub usa_nowhere : x ≡ None → false ≡ in_usa d n
   unfolding in_usa
   usa_nowhere f = rw (← e, f)
 
-  pub usa_there : (k : ℕ) → x ≡ At k → (b : Bool) → b ≡ is_usa d k → b ≡ in_usa d n
+  pub usa_there : (k : ℕ) → x ≡ Some k → (b : Bool) → b ≡ is_usa d k → b ≡ in_usa d n
   unfolding in_usa
   usa_there k f b g = g ∙ rw (← e, f)
 

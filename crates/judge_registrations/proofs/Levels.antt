@@ -1,10 +1,9 @@
 -- The organisations below one another, 31 and 32: one law for each branch of the code.
 -- Assumes nothing.
+use Rattle.std.specs.Prelude.{Option, None, Some, ℕ}
 use mathlib.Core.Path.{◌≡◌, ◌∙◌}
 use mathlib.Core.Bool.{Bool, true, false}
 use Prim.Native.Nat.{ℕ}
-use Rattle.text_scan.specs.declared.Found.{Found}
-use Rattle.text_scan.specs.declared.Found.TheVariants.{At, Nothing}
 use Rattle.judge_paths.specs.Roles.{Labeler, Registrant, Establishment}
 use Rattle.judge_tests.specs.declared.Test.TheVariants.{Any}
 use Rattle.judge_draft.specs.Drafts.{Draft, is, is_empty}
@@ -17,12 +16,12 @@ module _ (d : Draft) (n : ℕ) (a : Bool) (e : a ≡ is d Labeler n) where
   unfolding breaks31
   other_31 f = rw (← e, f)
 
-  module _ (f : a ≡ true) (x : Found) (g : x ≡ only_one (chosen d (wanted Registrant 2 Any) n)) where
-    pub none_31 : x ≡ Nothing → true ≡ breaks31 d n
+  module _ (f : a ≡ true) (x : Option ℕ) (g : x ≡ only_one (chosen d (wanted Registrant 2 Any) n)) where
+    pub none_31 : x ≡ None → true ≡ breaks31 d n
     unfolding breaks31
     none_31 h = rw (← e, f, ← g, h)
 
-    pub one_31 : (k : ℕ) → x ≡ At k → false ≡ breaks31 d n
+    pub one_31 : (k : ℕ) → x ≡ Some k → false ≡ breaks31 d n
     unfolding breaks31
     one_31 k h = rw (← e, f, ← g, h)
 

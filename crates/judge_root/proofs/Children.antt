@@ -1,5 +1,6 @@
 -- Procedures 5 to 13: one law for each branch of the code.
 -- Assumes nothing.
+use Rattle.std.specs.Prelude.{Option, ℕ}
 use mathlib.Core.Path.{◌≡◌, refl, sym, ap}
 use mathlib.Core.Bool.{Bool, true, false}
 use Prim.Native.Nat.{ℕ, ◌+◌}
@@ -8,7 +9,6 @@ use borrow.Author.Tests.{eqb-true, eqb-false, eq-eqb, ne_eqb}
 use lib.Dec.{eqb}
 use lib.ListN.{length}
 use Rattle.text_scan.specs.Choice.{not}
-use Rattle.text_scan.specs.declared.Found.{Found}
 use Rattle.judge_paths.specs.Roles.{Root, Id, Code, EffectiveTime, SetId, VersionNumber, Labeler, RequestLabeler}
 use Rattle.judge_draft.specs.declared.Demand.TheVariants.{Nothing, CodeRow, NoDocument, NoVersion}
 use Rattle.judge_tests.specs.declared.Test.TheVariants.{Any}
@@ -21,7 +21,7 @@ use Rattle.judge_header.specs.Header.{id_holds, set_holds, has_type, version_hol
 use Rattle.judge_root.specs.Root.{one_at, one_of_root, breaks5, demand6, breaks7, demand8, breaks9, breaks10, breaks11, demand12, labelers, breaks13}
 
 -- ---- one child of the root with a property
-module _ (d : Draft) (found : Found) (r : ℕ) (p : Property) (n a : ℕ) (e : a ≡ role d n) where
+module _ (d : Draft) (found : Option ℕ) (r : ℕ) (p : Property) (n a : ℕ) (e : a ≡ role d n) where
   pub number_wrong : a ≡ Root → (t : Bool) → t ≡ one found → not t ≡ one_of_root d found r (has_property d p) n
   unfolding one_of_root is
   number_wrong f t g = rw (← e, eq-eqb a Root f, g)

@@ -1,8 +1,7 @@
 -- Procedures 5 to 13 (document 01, "From 002 section 1.1 to 1.3"): what the root has one of, and the labeler.
 -- Assumes nothing.
-use Rattle.std.specs.Prelude.{ℕ, ◌+◌, Bool, eqb, length}
+use Rattle.std.specs.Prelude.{ℕ, ◌+◌, Bool, eqb, length, Option}
 use Rattle.text_scan.specs.Choice.{pick, ◌and◌, not}
-use Rattle.text_scan.specs.declared.Found.{Found}
 use Rattle.judge_paths.specs.Roles.{Root, Id, Code, EffectiveTime, SetId, VersionNumber, Labeler, RequestLabeler}
 use Rattle.judge_draft.specs.declared.Demand.{Demand}
 use Rattle.judge_draft.specs.declared.Demand.TheVariants.{CodeRow, NoDocument, NoVersion}
@@ -14,11 +13,11 @@ use Rattle.judge_header.specs.declared.Header.{Header}
 use Rattle.judge_header.specs.Header.{guid_root, id_holds, set_holds, typed_code, has_type, day_value, version_value, version_holds}
 
 -- element n is the one of its role
-unfoldable pub one_at : Draft → Found → ℕ → ℕ → Bool
+unfoldable pub one_at : Draft → Option ℕ → ℕ → ℕ → Bool
 one_at d found r n = is d r n and one found
 
 -- one child of the root with a property: a wrong number is found at the root, any other fault at the child
-unfoldable pub one_of_root : Draft → Found → ℕ → (ℕ → Bool) → ℕ → Bool
+unfoldable pub one_of_root : Draft → Option ℕ → ℕ → (ℕ → Bool) → ℕ → Bool
 one_of_root d found r p n = pick (is d Root n) (not (one found)) (one_at d found r n and not (p n))
 
 unfoldable pub breaks5 : Draft → Header → ℕ → Bool

@@ -28,7 +28,7 @@ fn has_display(
     requires { Serves Lookup.Code (keeps_row Lookup.Code [] []) tables.now from count codes.now }
     ensures { result ≡ some_row (is_code code.now system.now (attribute_of document.now at (text "displayName"))) (rows_at tables.now from count) }
 {
-    let Place::At(a, e) = xml_values::plain_attribute(document, at, b"displayName") else {
+    let Some(place) = xml_values::plain_attribute(document, at, b"displayName") else {
         let mut room = [0u8; Reader::VALUE];
         let display = xml_values::attribute(document, at, b"displayName", &mut room);
         return table_search::some_row(
@@ -50,7 +50,7 @@ fn has_display(
         codes,
         code,
         system,
-        &document[a..e],
+        &document[place.first..place.after],
     )
 }
 
@@ -67,7 +67,7 @@ fn has_system(
     requires { Serves Lookup.Code (keeps_row Lookup.Code [] []) tables.now from count codes.now }
     ensures { result ≡ some_row (is_code code.now (attribute_of document.now at (text "codeSystem")) (attribute_of document.now at (text "displayName"))) (rows_at tables.now from count) }
 {
-    let Place::At(a, e) = xml_values::plain_attribute(document, at, b"codeSystem") else {
+    let Some(place) = xml_values::plain_attribute(document, at, b"codeSystem") else {
         let mut room = [0u8; Reader::VALUE];
         let system = xml_values::attribute(document, at, b"codeSystem", &mut room);
         return has_display(document, at, tables, from, count, codes, code, system);
@@ -80,7 +80,7 @@ fn has_system(
         count,
         codes,
         code,
-        &document[a..e],
+        &document[place.first..place.after],
     )
 }
 
@@ -96,12 +96,20 @@ pub fn has_code(
     requires { Serves Lookup.Code (keeps_row Lookup.Code [] []) tables.now from count codes.now }
     ensures { result ≡ some_row (is_code (attribute_of document.now at (text "code")) (attribute_of document.now at (text "codeSystem")) (attribute_of document.now at (text "displayName"))) (rows_at tables.now from count) }
 {
-    let Place::At(a, e) = xml_values::plain_attribute(document, at, b"code") else {
+    let Some(place) = xml_values::plain_attribute(document, at, b"code") else {
         let mut room = [0u8; Reader::VALUE];
         let code = xml_values::attribute(document, at, b"code", &mut room);
         return has_system(document, at, tables, from, count, codes, code);
     };
-    has_system(document, at, tables, from, count, codes, &document[a..e])
+    has_system(
+        document,
+        at,
+        tables,
+        from,
+        count,
+        codes,
+        &document[place.first..place.after],
+    )
 }
 
 // Whether a row of the register has this number, and the text of the element at `at` as its name.
@@ -117,7 +125,7 @@ fn has_name_of(
     requires { Serves Lookup.Name (keeps_row Lookup.Name [] []) tables.now from count names.now }
     ensures { result ≡ some_row (is_registered number.now (text_of document.now at)) (rows_at tables.now from count) }
 {
-    let Place::At(a, e) = xml_texts::plain_text(document, at) else {
+    let Some(place) = xml_texts::plain_text(document, at) else {
         let mut room = [0u8; Reader::VALUE];
         let name = xml_texts::text(document, at, &mut room);
         return table_search::some_row(Lookup::Name, tables, from, count, names, number, name, b"");
@@ -129,7 +137,7 @@ fn has_name_of(
         count,
         names,
         number,
-        &document[a..e],
+        &document[place.first..place.after],
         b"",
     )
 }
@@ -147,10 +155,18 @@ pub fn has_name(
     requires { Serves Lookup.Name (keeps_row Lookup.Name [] []) tables.now from count names.now }
     ensures { result ≡ some_row (is_registered (attribute_of document.now id (text "extension")) (text_of document.now at)) (rows_at tables.now from count) }
 {
-    let Place::At(a, e) = xml_values::plain_attribute(document, id, b"extension") else {
+    let Some(place) = xml_values::plain_attribute(document, id, b"extension") else {
         let mut room = [0u8; Reader::VALUE];
         let number = xml_values::attribute(document, id, b"extension", &mut room);
         return has_name_of(document, at, tables, from, count, names, number);
     };
-    has_name_of(document, at, tables, from, count, names, &document[a..e])
+    has_name_of(
+        document,
+        at,
+        tables,
+        from,
+        count,
+        names,
+        &document[place.first..place.after],
+    )
 }

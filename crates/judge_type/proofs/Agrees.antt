@@ -1,17 +1,16 @@
 -- A document has a type when 7 holds, and the type that is told of a document without one is that of its draft: the header is the same for all
 -- types, for what the root lists does not depend on the type.
 -- Assumes nothing.
+use Rattle.std.specs.Prelude.{Option, None, Some, ℕ}
 use mathlib.Core.Path.{◌≡◌, refl, sym, ◌∙◌, ap}
 use mathlib.Core.Bool.{Bool, true, false}
 use mathlib.Core.List.{List}
-use Prim.Native.Nat.{ℕ, zero, suc, ◌+◌, ◌-◌, ◌*◌, ◌/◌, ◌<◌, ◌≤◌}
+use Prim.Native.Nat.{ℕ, zero, suc, ◌+◌, ◌*◌, ◌/◌, ◌<◌, ◌≤◌}
 use native.Mathlib.Omega.{arith}
 use borrow.Author.Tests.{ltb-true, ltb-false, eqb-true, eqb-false}
 use lib.Dec.{eqb, ltb}
 use lib.ListN.{length, get_or, get_or-eq_default}
 use Rattle.text_scan.specs.Choice.{pick, ◌or◌, ◌and◌, not}
-use Rattle.text_scan.specs.declared.Found.{Found}
-use Rattle.text_scan.specs.declared.Found.TheVariants.{At, Nothing}
 use Rattle.xml_steps.specs.Reading.{parent_of, first_of}
 use Rattle.judge_paths.specs.declared.DocumentType.{DocumentType}
 use Rattle.judge_paths.specs.declared.DocumentType.TheVariants.{Neither, Registration, Request}
@@ -39,9 +38,9 @@ has_type_lem d h = by h.code
     of false true = refl
     of false false = refl
 
-    by : (x : Found) → one_has x (typed_code d) ≡ fits either (pick (one_has x (code_is d registration_code)) Registration (pick (one_has x (code_is d request_code)) Request Neither))
-    by Nothing = refl
-    by (At k) = of (code_is d registration_code k) (code_is d request_code k)
+    by : (x : Option ℕ) → one_has x (typed_code d) ≡ fits either (pick (one_has x (code_is d registration_code)) Registration (pick (one_has x (code_is d request_code)) Request Neither))
+    by None = refl
+    by (Some k) = of (code_is d registration_code k) (code_is d request_code k)
 
 -- ---- what the root lists
 root_lists : (t : DocumentType) (name : List ℕ) → child_role t Root name ≡ child_role Neither Root name
@@ -50,9 +49,9 @@ root_lists Neither name = refl
 root_lists Registration name = refl
 root_lists Request name = refl
 
-one_same : (x : Found) (p q : ℕ → Bool) → ((k : ℕ) → p k ≡ q k) → one_has x p ≡ one_has x q
-one_same Nothing p q f = refl
-one_same (At k) p q f = f k
+one_same : (x : Option ℕ) (p q : ℕ → Bool) → ((k : ℕ) → p k ≡ q k) → one_has x p ≡ one_has x q
+one_same None p q f = refl
+one_same (Some k) p q f = f k
 
 module _ (s rows : List ℕ) where
   -- the role of a child of the root

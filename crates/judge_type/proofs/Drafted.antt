@@ -5,7 +5,7 @@ use mathlib.Core.List.{List}
 use Prim.Native.Nat.{ℕ, zero, suc, ◌-◌, ◌*◌, ◌/◌, ◌<◌, ◌≤◌}
 use native.Mathlib.Omega.{arith}
 use lib.ListN.{length, take, get_or-eq_default}
-use Rattle.xml_steps.specs.Reading.{parent_of, first_of, after_of}
+use Rattle.xml_steps.specs.Reading.{parent_of}
 use Rattle.xml_nesting.specs.Nested.{Nested}
 use Rattle.judge_paths.specs.declared.DocumentType.{DocumentType}
 use Rattle.judge_paths.specs.declared.DocumentType.TheVariants.{Neither}

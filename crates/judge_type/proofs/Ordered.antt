@@ -3,19 +3,19 @@
 -- Assumes nothing.
 use mathlib.Core.Path.{◌≡◌, refl, sym, ◌∙◌, ap, fun_ext}
 use mathlib.Core.Bool.{Bool, true, false}
-use mathlib.Core.List.{List, [], ◌∷◌}
+use mathlib.Core.List.{List, []}
 use Prim.Native.Nat.{ℕ, zero, suc, ◌+◌, ◌-◌, ◌*◌, ◌/◌, ◌<◌, ◌≤◌}
 use native.Mathlib.Omega.{arith}
 use borrow.Author.Tests.{lt-ltb, le-ltb, eq-eqb, ne_eqb, eqb-true, eqb-false, ltb-true, ltb-false}
 use lib.Dec.{eqb, ltb}
 use lib.ListN.{length}
-use Rattle.text_scan.specs.Choice.{pick, ◌and◌, not}
-use Rattle.text_scan.proofs.Tests.{and_left, and_false}
+use Rattle.text_scan.specs.Choice.{◌and◌}
+use Rattle.text_scan.proofs.Tests.{and_false}
 use Rattle.xml_steps.specs.Reading.{parent_of, first_of, after_of}
 use Rattle.xml_nesting.specs.Nested.{Nested}
 use Rattle.judge_draft.specs.Below.{ancestor_in, stands_below, those, all_below}
 use Rattle.judge_draft.specs.Searched.{within, searched_from, searched}
-use Rattle.judge_draft.specs.Drafts.{Draft, draft, full_draft}
+use Rattle.judge_draft.specs.Drafts.{draft, full_draft}
 
 -- ---- a number is the same or not, less or not; a test is met or not
 split : (a b : ℕ) {A : Type 0} → (a ≡ b → A) → ((a ≡ b → ⊥) → A) → A

@@ -7,6 +7,7 @@ ghost use Rattle.judge_paths.specs.declared.DocumentType.TheVariants.{Neither};
 ghost use Rattle.judge_notes.specs.Notes.{noted};
 ghost use Rattle.judge_type.specs.Drafted.{type_in};
 
+use judge_draft::Draft;
 use judge_paths::DocumentType;
 
 // The type of a document with this element table, which is in document order; the room is for its notes.
@@ -16,7 +17,10 @@ pub fn type_in(document: &[u8], elements: &[u32], notes: &mut [u32]) -> Document
 {
     judge_notes::fill(document, elements, DocumentType::Neither, notes);
     let end = 4 * (elements.len() / 4);
-    let plain = &notes[0..end];
-    let header = judge_header::header_of(document, plain);
-    judge_header::type_of(document, plain, header)
+    let draft = Draft {
+        document,
+        notes: &notes[0..end],
+    };
+    let header = judge_header::header_of(draft);
+    judge_header::type_of(draft, header)
 }

@@ -1,40 +1,43 @@
 -- The class of a procedure, by the lists that name it.
 -- Assumes nothing.
-use mathlib.Core.Path.{◌≡◌, sym, ◌∙◌}
-use mathlib.Core.Bool.{Bool, true, false}
-use mathlib.Core.List.{List}
-use Prim.Native.Nat.{ℕ, ◌+◌, ◌<◌, ◌≤◌}
-use borrow.Author.Tests.{eq-eqb, ne_eqb}
-use lib.ListN.{length, drop, get_or, drop_of_length-le}
-use Rattle.text_scan.proofs.Within.{drop_here}
+use mathlib.Core.Path.{◌≡◌, refl, sym}
+use mathlib.Core.Bool.{Bool, true, false, ◌||◌}
+use mathlib.Core.List.{List, [], ◌∷◌}
+use Prim.Native.Nat.{ℕ}
+use borrow.Author.Tests.{eq-eqb, ne_eqb, eqb-true, eqb-false}
+use lib.Dec.{eqb}
+use Rattle.std.specs.List.{list_any}
+use Rattle.text_scan.specs.Choice.{◌or◌}
 use Rattle.list_findings.specs.declared.Class.TheVariants.{DocumentOnly, Both, Either}
 use Rattle.list_findings.specs.Findings.{kept_by_both, kept_by_either, is_among, class_of}
 
--- ---- the walk along a list: it is one of the whole where it is one of what is left
-abbrev pub Left : List ℕ → ℕ → ℕ → Type 0
-Left qs p i = is_among qs p ≡ is_among (drop i qs) p
+-- ---- what `contains` answers: it has the list's number first, and the definition the one that is sought
+swapped : (p q : ℕ) → eqb q p ≡ eqb p q
+swapped p q = go (eqb p q) refl
+  where
+    go : (t : Bool) → eqb p q ≡ t → eqb q p ≡ t
+    go true e = eq-eqb q p (sym (eqb-true p q e))
+    go false e = ne_eqb q p (λ h. eqb-false p q e (sym h))
 
-module _ (qs : List ℕ) (p i : ℕ) (l : Left qs p i) where
-  pub one_found : i < length qs → p ≡ get_or qs i 0 → true ≡ is_among qs p
-  one_found h e = sym (l ∙ rw (drop_here qs i h, eq-eqb p (get_or qs i 0) e))
+either_way : (t u : Bool) → (t || u) ≡ (t or u)
+either_way true u = refl
+either_way false u = refl
 
-  pub one_passed : i < length qs → (p ≡ get_or qs i 0 → ⊥) → Left qs p (i + 1)
-  one_passed h e = l ∙ rw (drop_here qs i h, ne_eqb p (get_or qs i 0) e)
-
-  pub none_left : length qs ≤ i → false ≡ is_among qs p
-  none_left h = sym (l ∙ rw (drop_of_length-le qs h))
+is_in : (qs : List ℕ) (p : ℕ) → list_any (λ q. eqb q p) qs ≡ is_among qs p
+is_in [] p = refl
+is_in (q ∷ qs) p = rw (swapped p q, is_in qs p) (either_way (eqb p q) (is_among qs p))
 
 -- ---- the class
-module _ (p : ℕ) (t : Bool) (e : t ≡ is_among kept_by_both p) where
+module _ (p : ℕ) (t : Bool) (e : t ≡ list_any (λ q. eqb q p) kept_by_both) where
   pub both : t ≡ true → Both ≡ class_of p
   unfolding class_of
-  both f = rw (← e, f)
+  both f = rw (← is_in kept_by_both p, ← e, f)
 
-  module _ (f : t ≡ false) (u : Bool) (g : u ≡ is_among kept_by_either p) where
+  module _ (f : t ≡ false) (u : Bool) (g : u ≡ list_any (λ q. eqb q p) kept_by_either) where
     pub either : u ≡ true → Either ≡ class_of p
     unfolding class_of
-    either h = rw (← e, f, ← g, h)
+    either h = rw (← is_in kept_by_both p, ← e, f, ← is_in kept_by_either p, ← g, h)
 
     pub document_only : u ≡ false → DocumentOnly ≡ class_of p
     unfolding class_of
-    document_only h = rw (← e, f, ← g, h)
+    document_only h = rw (← is_in kept_by_both p, ← e, f, ← is_in kept_by_either p, ← g, h)

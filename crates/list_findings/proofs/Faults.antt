@@ -1,5 +1,6 @@
 -- The first fault that the walk meets has the least first byte of all faults of the two lists; where it meets none there is none.
 -- Assumes nothing.
+use Rattle.std.specs.Prelude.{Option, None, Some, ℕ}
 use mathlib.Core.Path.{◌≡◌, refl, sym, ◌∙◌}
 use mathlib.Core.Logic.{◌⊎◌, inl, inr}
 use mathlib.Core.Bool.{Bool, true, false}
@@ -10,8 +11,6 @@ use borrow.Author.Tests.{eqb-true, eqb-false}
 use lib.Dec.{eqb}
 use Rattle.text_scan.specs.Choice.{pick}
 use Rattle.text_scan.proofs.Tests.{never}
-use Rattle.text_scan.specs.declared.Found.{Found}
-use Rattle.text_scan.specs.declared.Found.TheVariants.{At, Nothing}
 use Rattle.list_findings.specs.declared.Finding.{Finding}
 use Rattle.list_findings.specs.declared.Class.{Class}
 use Rattle.list_findings.specs.declared.Class.TheVariants.{DocumentOnly, Both, Either}
@@ -52,11 +51,11 @@ module _ (class : ℕ → Class) where
   swap a b t (two_ends r q e f k d i) = two_ends q r f e (keyed_swap r q k) (λ x. d (sym x)) (sym k.firsts ∙ i)
 
   -- two pairs of lists with the same faults
-  carry : (a b c d : List Finding) → ((t : ℕ) → FaultAt class a b t → FaultAt class c d t) → ((t : ℕ) → FaultAt class c d t → FaultAt class a b t) → (f : Found) → Least class a b f → Least class c d f
-  carry a b c d g h (At at) l = (g at l.0, λ t x. l.1 t (h t x))
-  carry a b c d g h Nothing l = λ t x. l t (h t x)
+  carry : (a b c d : List Finding) → ((t : ℕ) → FaultAt class a b t → FaultAt class c d t) → ((t : ℕ) → FaultAt class c d t → FaultAt class a b t) → (f : Option ℕ) → Least class a b f → Least class c d f
+  carry a b c d g h (Some at) l = (g at l.0, λ t x. l.1 t (h t x))
+  carry a b c d g h None l = λ t x. l t (h t x)
 
-  swapped : (a b : List Finding) (f : Found) → Least class a b f → Least class b a f
+  swapped : (a b : List Finding) (f : Option ℕ) → Least class a b f → Least class b a f
   swapped a b f l = carry a b b a (swap a b) (swap b a) f l
 
   -- ---- a finding of the first list alone
@@ -79,7 +78,7 @@ module _ (class : ℕ → Class) where
         go (inl j) = absurd (before_lacks x b g p q f (rw j at k))
         go (inr h) = two_ends r q h f k d i
 
-    least_alone : (f : Found) → Least class xs b f → (c : Class) → class x.procedure ≡ c → Least class (x ∷ xs) b (faulting (of_alone c x) f)
+    least_alone : (f : Option ℕ) → Least class xs b f → (c : Class) → class x.procedure ≡ c → Least class (x ∷ xs) b (faulting (of_alone c x) f)
     least_alone f l DocumentOnly q =
         (in_first x (has_head x x xs refl) (before_lacks x b g p) q refl, fault_high class (x ∷ xs) b x.first (starts_least x xs o.0 o.1) (λ r e. (below x r (before_all x b g p r e)).starts))
     least_alone f l Both q = carry xs b (x ∷ xs) b grown (shrunk (λ e. absurd (let z : ◌≡◌ {A = ℕ} 0 1 = cc in omega arith))) f l
@@ -119,7 +118,7 @@ module _ (class : ℕ → Class) where
         go (inr g) (inl h) = absurd (other r g (rw h at l))
         go (inr g) (inr h) = two_ends r q g h l d i
 
-    least_both : (f : Found) → Least class xs ys f → (t : Bool) → eqb x.after y.after ≡ t → Least class (x ∷ xs) (y ∷ ys) (faulting (pick t (keep x) (fault x.first)) f)
+    least_both : (f : Option ℕ) → Least class xs ys f → (t : Bool) → eqb x.after y.after ≡ t → Least class (x ∷ xs) (y ∷ ys) (faulting (pick t (keep x) (fault x.first)) f)
     least_both f l true q = carry xs ys (x ∷ xs) (y ∷ ys) grown_both (shrunk_both (eqb-true x.after y.after q)) f l
     least_both f l false q =
         (two_ends x y (has_head x x xs refl) (has_head y y ys refl) k (eqb-false x.after y.after q) refl, fault_high class (x ∷ xs) (y ∷ ys) x.first (starts_least x xs o.0 o.1) (λ r e. omega (arith, starts_least y ys p.0 p.1 r e, k.firsts)))

@@ -1,6 +1,7 @@
 -- What is kept of two lists: in order, none twice; what holds of all findings of both holds of all that are kept; and a finding is kept
 -- exactly where its class says so.
 -- Assumes nothing.
+use Rattle.std.specs.Prelude.{Option, None, ℕ}
 use mathlib.Core.Path.{◌≡◌, refl, ◌∙◌, ap}
 use mathlib.Core.Bool.{Bool, true, false}
 use mathlib.Core.List.{List, ◌∷◌}
@@ -10,8 +11,6 @@ use borrow.Author.Tests.{eqb-true}
 use lib.Dec.{eqb}
 use Rattle.text_scan.specs.Choice.{pick, ◌or◌}
 use Rattle.text_scan.proofs.Tests.{and_false}
-use Rattle.text_scan.specs.declared.Found.{Found}
-use Rattle.text_scan.specs.declared.Found.TheVariants.{Nothing}
 use Rattle.list_findings.specs.declared.Finding.{Finding}
 use Rattle.list_findings.specs.declared.Class.{Class}
 use Rattle.list_findings.specs.declared.Class.TheVariants.{DocumentOnly, Both, Either}
@@ -91,7 +90,7 @@ module _ (class : ℕ → Class) where
   swapped a b rs k r = k r ∙ stays_swap (class r.procedure) (has r a) (has r b)
 
   -- a finding of the first list alone
-  one_alone : (x : Finding) (xs b rs : List Finding) → has x b ≡ false → Stays xs b rs → (c : Class) → class x.procedure ≡ c → (f : Found) → faulting (of_alone c x) f ≡ Nothing → Stays (x ∷ xs) b (keeping (of_alone c x) rs)
+  one_alone : (x : Finding) (xs b rs : List Finding) → has x b ≡ false → Stays xs b rs → (c : Class) → class x.procedure ≡ c → (f : Option ℕ) → faulting (of_alone c x) f ≡ None → Stays (x ∷ xs) b (keeping (of_alone c x) rs)
   unfolding has
   one_alone x xs b rs n k DocumentOnly q f e r = absurd (let z : ◌≡◌ {A = ℕ} 0 1 = cc in omega arith)
   one_alone x xs b rs n k Both q f e r = go (same r x) refl
@@ -118,7 +117,7 @@ module _ (class : ℕ → Class) where
   stays_true Both = refl
   stays_true Either = refl
 
-  one_twice : (x y : Finding) (xs ys rs : List Finding) → Keyed x y → Stays xs ys rs → (t : Bool) → eqb x.after y.after ≡ t → (f : Found) → faulting (pick t (keep x) (fault x.first)) f ≡ Nothing → Stays (x ∷ xs) (y ∷ ys) (keeping (pick t (keep x) (fault x.first)) rs)
+  one_twice : (x y : Finding) (xs ys rs : List Finding) → Keyed x y → Stays xs ys rs → (t : Bool) → eqb x.after y.after ≡ t → (f : Option ℕ) → faulting (pick t (keep x) (fault x.first)) f ≡ None → Stays (x ∷ xs) (y ∷ ys) (keeping (pick t (keep x) (fault x.first)) rs)
   unfolding has
   one_twice x y xs ys rs g k false q f e r = absurd (let z : ◌≡◌ {A = ℕ} 0 1 = cc in omega arith)
   one_twice x y xs ys rs g k true q f e r =
@@ -130,12 +129,12 @@ module _ (class : ℕ → Class) where
       go false = k r
 
   -- no fault in a step, and none after it
-  free : (v : Verdict) (f : Found) → faulting v f ≡ Nothing → f ≡ Nothing
+  free : (v : Verdict) (f : Option ℕ) → faulting v f ≡ None → f ≡ None
   free (keep r) f e = e
   free leave f e = e
   free (fault at) f e = absurd (let z : ◌≡◌ {A = ℕ} 0 1 = cc in omega arith)
 
-  member : {a b : List Finding} {ms : List Met} → Meets a b ms → Ordered a → Ordered b → fault_of class ms ≡ Nothing → Stays a b (kept class ms)
+  member : {a b : List Finding} {ms : List Met} → Meets a b ms → Ordered a → Ordered b → fault_of class ms ≡ None → Stays a b (kept class ms)
   unfolding kept fault_of verdict has
   member over o p e r = stays_none (class r.procedure)
     where
@@ -162,5 +161,5 @@ module _ (class : ℕ → Class) where
   pub kept_all : (P : Finding → Type 0) (a b : List Finding) → All P a → All P b → All P (kept class (met a b))
   kept_all P a b = all P (meets a b)
 
-  pub kept_where : (a b : List Finding) → Ordered a → Ordered b → fault_of class (met a b) ≡ Nothing → (r : Finding) → has r (kept class (met a b)) ≡ stays (class r.procedure) (has r a) (has r b)
+  pub kept_where : (a b : List Finding) → Ordered a → Ordered b → fault_of class (met a b) ≡ None → (r : Finding) → has r (kept class (met a b)) ≡ stays (class r.procedure) (has r a) (has r b)
   kept_where a b = member (meets a b)

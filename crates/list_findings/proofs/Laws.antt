@@ -1,5 +1,9 @@
 -- The laws of the merge, over its definition.
 -- Assumes nothing.
+use Rattle.std.specs.Prelude.{Option, None, Some, ℕ, Ok}
+use Rattle.refusals.specs.declared.Reason.TheVariants.{ShortList, BadList, NoMerge}
+use Rattle.refusals.specs.declared.Reason.{Reason}
+use Rattle.refusals.specs.Numbers.{refuses}
 use mathlib.Core.Path.{◌≡◌, refl, sym, ◌∙◌, ap}
 use mathlib.Core.Bool.{true}
 use mathlib.Core.List.{List, [], ◌∷◌, ◌++◌}
@@ -7,11 +11,8 @@ use Prim.Native.Nat.{ℕ, ◌/◌, ◌≤◌}
 use native.Mathlib.Omega.{arith}
 use borrow.Author.Tests.{eq-eqb, le-leb}
 use lib.ListN.{length, drop}
-use Rattle.text_scan.specs.declared.Found.{Found}
-use Rattle.text_scan.specs.declared.Found.TheVariants.{At, Nothing}
 use Rattle.list_findings.specs.declared.Finding.{Finding}
 use Rattle.list_findings.specs.declared.Class.{Class}
-use Rattle.list_findings.specs.declared.Merged.TheVariants.{Findings, Refused}
 use Rattle.list_findings.specs.Findings.{width, class_of, is_valid, records, flat, filled}
 use Rattle.list_findings.specs.Lists.{Ordered, All, Good, has, stays, FaultAt, Least}
 use Rattle.list_findings.specs.Merge.{Met, met, among, verdict, kept, fault_of, merged, first_fault, first_bad_record, Merging, merge_refused, too_many, merge_of}
@@ -28,15 +29,15 @@ pub merged_good : (a b : List Finding) → Good a → Good b → Good (merged a 
 merged_good a b g h =
     record { ordered = kept_ordered class_of a b g.ordered h.ordered; valid = kept_all class_of (λ r. is_valid r ≡ true) a b g.valid h.valid }
 
-pub merged_again : (a b : List Finding) → Good a → Good b → first_bad_record (flat (merged a b)) ≡ Nothing
+pub merged_again : (a b : List Finding) → Good a → Good b → first_bad_record (flat (merged a b)) ≡ None
 merged_again a b g h = good_flat (merged a b) (merged_good a b g h)
 
 -- ---- a finding is in the merged list exactly where its class says so
-pub merged_where : (a b : List Finding) → Good a → Good b → first_fault a b ≡ Nothing → (r : Finding) → has r (merged a b) ≡ stays (class_of r.procedure) (has r a) (has r b)
+pub merged_where : (a b : List Finding) → Good a → Good b → first_fault a b ≡ None → (r : Finding) → has r (merged a b) ≡ stays (class_of r.procedure) (has r a) (has r b)
 merged_where a b g h e = kept_where class_of a b g.ordered h.ordered e
 
 -- and so the merged list is the one ordered list of these findings
-pub merged_is : (a b c : List Finding) → Good a → Good b → first_fault a b ≡ Nothing → Ordered c → ((r : Finding) → has r c ≡ stays (class_of r.procedure) (has r a) (has r b)) → merged a b ≡ c
+pub merged_is : (a b c : List Finding) → Good a → Good b → first_fault a b ≡ None → Ordered c → ((r : Finding) → has r c ≡ stays (class_of r.procedure) (has r a) (has r b)) → merged a b ≡ c
 merged_is a b c g h e o k =
     ordered_same (merged a b) c (merged_good a b g h).ordered o (λ r. merged_where a b g h e r ∙ sym (k r))
 
@@ -44,12 +45,12 @@ merged_is a b c g h e o k =
 pub refused_least : (a b : List Finding) → Good a → Good b → Least class_of a b (first_fault a b)
 refused_least a b g h = fault_least class_of a b g.ordered h.ordered
 
-pub faultless : (a b : List Finding) → Good a → Good b → ((t : ℕ) → FaultAt class_of a b t → ⊥) → first_fault a b ≡ Nothing
+pub faultless : (a b : List Finding) → Good a → Good b → ((t : ℕ) → FaultAt class_of a b t → ⊥) → first_fault a b ≡ None
 faultless a b g h n = go (first_fault a b) (refused_least a b g h)
   where
-    go : (f : Found) → Least class_of a b f → f ≡ Nothing
-    go (At at) l = absurd (n at l.0)
-    go Nothing l = refl
+    go : (f : Option ℕ) → Least class_of a b f → f ≡ None
+    go (Some at) l = absurd (n at l.0)
+    go None l = refl
 
 -- ---- by the procedure's class alone: two ways to give classes that agree on the findings of both lists
 module _ (c d : ℕ → Class) where
@@ -72,12 +73,12 @@ unfolding met among kept verdict
 merged_self [] = refl
 merged_self (x ∷ xs) = rw (irreflexive x, eq-eqb x.after x.after refl) (ap (λ (l : List Finding). x ∷ l) (merged_self xs))
 
-pub faultless_self : (a : List Finding) → first_fault a a ≡ Nothing
+pub faultless_self : (a : List Finding) → first_fault a a ≡ None
 unfolding met among fault_of verdict
 faultless_self [] = refl
 faultless_self (x ∷ xs) = rw (irreflexive x, eq-eqb x.after x.after refl) (faultless_self xs)
 
-pub merge_self : (s out : List ℕ) → first_bad_record s ≡ Nothing → length s ≤ length out → merge_of s s out ≡ record { answer = Findings (length s / width); list = s ++ drop (length s) out }
+pub merge_self : (s out : List ℕ) → first_bad_record s ≡ None → length s ≤ length out → merge_of s s out ≡ record { answer = Ok (length s / width); list = s ++ drop (length s) out }
 unfolding merge_of
 merge_self s out e h =
     let n = length_records s in
@@ -86,30 +87,30 @@ merge_self s out e h =
     rw (e, faultless_self (records s), merged_self (records s), n, le-leb (length s / width) (length out / width) g, f)
 
 -- ---- the number answered is the merged list's length, with that list in front; and a refusal leaves the third list as it was
-refuse_case : (P : Merging → Type 0) (number : ℕ) (f : Found) (out : List ℕ) (o : Merging) → ((place : ℕ) → P (record { answer = Refused number place; list = out })) → P o → P (merge_refused number f out o)
-refuse_case P number (At place) out o h k = h place
-refuse_case P number Nothing out o h k = k
+refuse_case : (P : Merging → Type 0) (number : Reason) (f : Option ℕ) (out : List ℕ) (o : Merging) → ((place : ℕ) → P (record { answer = refuses number place; list = out })) → P o → P (merge_refused number f out o)
+refuse_case P number (Some place) out o h k = h place
+refuse_case P number None out o h k = k
 
 -- what holds of a refusal and of the merged list holds of the outcome
-module _ (P : Merging → Type 0) (a b out : List ℕ) (h : (number place : ℕ) → P (record { answer = Refused number place; list = out })) (k : P (record { answer = Findings (length (merged (records a) (records b))); list = filled (merged (records a) (records b)) out })) where
+module _ (P : Merging → Type 0) (a b out : List ℕ) (h : (number : Reason) (place : ℕ) → P (record { answer = refuses number place; list = out })) (k : P (record { answer = Ok (length (merged (records a) (records b))); list = filled (merged (records a) (records b)) out })) where
   outcome_case : P (merge_of a b out)
   unfolding merge_of
   outcome_case =
-      refuse_case P 12 (first_bad_record a) out _ (h 12)
-      (refuse_case P 12 (first_bad_record b) out _ (h 12)
-      (refuse_case P 13 (first_fault (records a) (records b)) out _ (h 13)
-      (refuse_case P 11 (too_many (merged (records a) (records b)) out) out _ (h 11) k)))
+      refuse_case P BadList (first_bad_record a) out _ (h BadList)
+      (refuse_case P BadList (first_bad_record b) out _ (h BadList)
+      (refuse_case P NoMerge (first_fault (records a) (records b)) out _ (h NoMerge)
+      (refuse_case P ShortList (too_many (merged (records a) (records b)) out) out _ (h ShortList) k)))
 
-pub counted : (a b out : List ℕ) (n : ℕ) → (merge_of a b out).answer ≡ Findings n → (n ≡ length (merged (records a) (records b))) × ((merge_of a b out).list ≡ filled (merged (records a) (records b)) out)
+pub counted : (a b out : List ℕ) (n : ℕ) → (merge_of a b out).answer ≡ Ok n → (n ≡ length (merged (records a) (records b))) × ((merge_of a b out).list ≡ filled (merged (records a) (records b)) out)
 counted a b out n =
     outcome_case
-    (λ o. o.answer ≡ Findings n → (n ≡ length (merged (records a) (records b))) × (o.list ≡ filled (merged (records a) (records b)) out))
+    (λ o. o.answer ≡ Ok n → (n ≡ length (merged (records a) (records b))) × (o.list ≡ filled (merged (records a) (records b)) out))
     a b out
     (λ number place e. absurd (let z : ◌≡◌ {A = ℕ} 0 1 = cc in omega arith))
     (λ e. (cc, refl))
 
-pub unchanged : (a b out : List ℕ) (number place : ℕ) → (merge_of a b out).answer ≡ Refused number place → (merge_of a b out).list ≡ out
+pub unchanged : (a b out : List ℕ) (number : Reason) (place : ℕ) → (merge_of a b out).answer ≡ refuses number place → (merge_of a b out).list ≡ out
 unchanged a b out number place =
-    outcome_case (λ o. o.answer ≡ Refused number place → o.list ≡ out) a b out
+    outcome_case (λ o. o.answer ≡ refuses number place → o.list ≡ out) a b out
     (λ n p e. refl)
     (λ e. absurd (let z : ◌≡◌ {A = ℕ} 0 1 = cc in omega arith))

@@ -1,6 +1,7 @@
 -- What the lists of procedures say of a merge, for every number from 1 to the last procedure: a finding stays where either list has it if
 -- `kept_by_either` names its procedure, and else where both have it.
 -- Assumes nothing.
+use Rattle.std.specs.Prelude.{None}
 use mathlib.Core.Path.{◌≡◌, refl, sym, ◌∙◌}
 use mathlib.Core.Bool.{Bool, true, false}
 use mathlib.Core.List.{List, [], ◌∷◌, ◌++◌}
@@ -10,7 +11,6 @@ use lib.Dec.{eqb, leb}
 use Rattle.text_scan.specs.Choice.{pick, ◌or◌, ◌and◌, not, between}
 use Rattle.text_scan.specs.Lists.{every}
 use Rattle.text_scan.proofs.Tests.{never, and_left, and_right}
-use Rattle.text_scan.specs.declared.Found.TheVariants.{Nothing}
 use Rattle.list_findings.specs.declared.Finding.{Finding}
 use Rattle.list_findings.specs.Findings.{last_procedure, kept_by_both, kept_by_either, is_among, class_of}
 use Rattle.list_findings.specs.Lists.{Good, has, stays}
@@ -54,5 +54,5 @@ stays_listed p x y = go (is_among kept_by_both p) refl (is_among kept_by_either 
     go false e true f = rw (e, f)
     go false e false f = rw (e, f)
 
-pub merged_listed : (a b : List Finding) → Good a → Good b → first_fault a b ≡ Nothing → (r : Finding) → has r (merged a b) ≡ pick (is_among kept_by_either r.procedure) (has r a or has r b) (has r a and has r b)
+pub merged_listed : (a b : List Finding) → Good a → Good b → first_fault a b ≡ None → (r : Finding) → has r (merged a b) ≡ pick (is_among kept_by_either r.procedure) (has r a or has r b) (has r a and has r b)
 merged_listed a b g h e r = merged_where a b g h e r ∙ stays_listed r.procedure (has r a) (has r b)

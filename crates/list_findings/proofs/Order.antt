@@ -4,14 +4,14 @@ use mathlib.Core.Path.{◌≡◌, refl, sym}
 use mathlib.Core.Bool.{Bool, true, false}
 use Prim.Native.Nat.{◌<◌, ◌≤◌}
 use native.Mathlib.Omega.{arith}
-use borrow.Author.Tests.{le-leb, lt-leb, ltb-true, ltb-false, eqb-true, eqb-false, lt-ltb, le-ltb, eq-eqb, ne_eqb}
-use lib.Dec.{leb, ltb, eqb}
+use borrow.Author.Tests.{ltb-true, ltb-false, eqb-true, eqb-false, lt-ltb, le-ltb, eq-eqb, ne_eqb}
+use lib.Dec.{ltb, eqb}
 use Rattle.text_scan.specs.Choice.{◌or◌, ◌and◌}
-use Rattle.text_scan.proofs.Tests.{never, and_false}
+use Rattle.text_scan.proofs.Tests.{never}
 use Rattle.text_scan.proofs.Within.{inside}
 use Rattle.list_findings.specs.declared.Finding.{Finding}
 use Rattle.list_findings.specs.Lists.{Keyed}
-use Rattle.list_findings.specs.Findings.{last_procedure, precedes, is_valid}
+use Rattle.list_findings.specs.Findings.{precedes}
 
 -- what the test says, and what it says where it fails
 pub record Below (x y : Finding) : Type 0 where
@@ -51,12 +51,9 @@ module _ (x y : Finding) where
       (λ h. let e : x.first ≡ y.first → ⊥ = λ q. omega arith in rw (le-ltb x.first y.first b.behind, ne_eqb x.first y.first e))
       (λ h. let e : x.first ≡ y.first = omega (arith, b.behind) in rw (le-ltb x.first y.first b.behind, eq-eqb x.first y.first e, le-ltb x.procedure y.procedure (b.nearer h)))
 
--- the code's ways to an answer: by the first bytes, or by the procedures; and whether a record is valid
+-- by the first bytes, or by the procedures
 pub first_below : (x y : Finding) → x.first < y.first → true ≡ precedes x y
 first_below x y h = sym (is_below x y (record { starts = omega arith; further = λ g. absurd (omega arith) }))
-
-pub first_above : (x y : Finding) → y.first < x.first → false ≡ precedes x y
-first_above x y h = sym (is_not_below x y (record { behind = omega arith; nearer = λ g. absurd (omega arith) }))
 
 pub first_same : (x y : Finding) → y.first ≤ x.first → x.first ≤ y.first → ltb x.procedure y.procedure ≡ precedes x y
 first_same x y h g =
@@ -93,12 +90,3 @@ pub precedes_keyed : (x y z : Finding) → Keyed x y → precedes y z ≡ true �
 precedes_keyed x y z k p =
     let a = below y z p in
     is_below x z (record { starts = omega (arith, k.firsts); further = λ h. omega (arith, a.further (omega (arith, k.firsts)), k.procedures) })
-
-pub no_procedure_lem : (x : Finding) → x.procedure < 1 → false ≡ is_valid x
-no_procedure_lem x h = rw (lt-leb 1 x.procedure h)
-
-pub past_last : (x : Finding) → last_procedure < x.procedure → false ≡ is_valid x
-past_last x h = rw (lt-leb x.procedure last_procedure h, and_false (leb 1 x.procedure))
-
-pub of_procedure : (x : Finding) → 1 ≤ x.procedure → x.procedure ≤ last_procedure → ltb x.first x.after ≡ is_valid x
-of_procedure x h g = rw (le-leb 1 x.procedure h, le-leb x.procedure last_procedure g)

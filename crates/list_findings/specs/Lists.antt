@@ -1,9 +1,7 @@
 -- Lists of findings, in the words in which the laws of the merge are told: order, membership, and the faults of two lists.
 -- Assumes nothing.
-use Rattle.std.specs.Prelude.{ℕ, ◌≤◌, ◌≡◌, Bool, true, false, List, [], ◌∷◌, eqb}
+use Rattle.std.specs.Prelude.{ℕ, ◌≤◌, ◌≡◌, Bool, true, false, List, [], ◌∷◌, eqb, Option, None, Some}
 use Rattle.text_scan.specs.Choice.{◌or◌, ◌and◌}
-use Rattle.text_scan.specs.declared.Found.{Found}
-use Rattle.text_scan.specs.declared.Found.TheVariants.{At, Nothing}
 use Rattle.list_findings.specs.declared.Finding.{Finding}
 use Rattle.list_findings.specs.declared.Class.{Class}
 use Rattle.list_findings.specs.declared.Class.TheVariants.{DocumentOnly, Both, Either}
@@ -59,6 +57,6 @@ pub data FaultAt (class : ℕ → Class) (a b : List Finding) (at : ℕ) : Type 
   two_ends : (r q : Finding) → has r a ≡ true → has q b ≡ true → Keyed r q → (r.after ≡ q.after → ⊥) → r.first ≡ at → FaultAt class a b at
 
 -- the least first byte at which two lists have a fault; nothing where they have none
-abbrev pub Least : (ℕ → Class) → List Finding → List Finding → Found → Type 0
-Least class a b (At at) = FaultAt class a b at × ((t : ℕ) → FaultAt class a b t → at ≤ t)
-Least class a b Nothing = (t : ℕ) → FaultAt class a b t → ⊥
+abbrev pub Least : (ℕ → Class) → List Finding → List Finding → Option ℕ → Type 0
+Least class a b (Some at) = FaultAt class a b at × ((t : ℕ) → FaultAt class a b t → at ≤ t)
+Least class a b None = (t : ℕ) → FaultAt class a b t → ⊥

@@ -1,38 +1,38 @@
 -- Merging (document 01, "Merging", and refusals 11 to 13): two lists of findings are walked together in their order. What is met is a
 -- finding of one list alone, or one of each list with the same procedure and first byte, and is kept, left out or a fault.
 -- Assumes nothing.
-use Rattle.std.specs.Prelude.{ℕ, ◌+◌, ◌/◌, ◌%◌, ◌≡◌, List, [], ◌∷◌, map, leb, eqb, length}
+use Rattle.std.specs.Prelude.{ℕ, ◌+◌, ◌/◌, ◌%◌, ◌≡◌, List, [], ◌∷◌, map, leb, eqb, length, Option, None, Some, Result, Ok}
+use Rattle.refusals.specs.declared.Reason.TheVariants.{ShortList, BadList, NoMerge}
+use Rattle.refusals.specs.declared.Reason.{Reason}
+use Rattle.refusals.specs.declared.Refusal.{Refusal}
+use Rattle.refusals.specs.Numbers.{refuses}
 use Rattle.text_scan.specs.Choice.{pick, ◌and◌}
-use Rattle.text_scan.specs.declared.Found.{Found}
-use Rattle.text_scan.specs.declared.Found.TheVariants.{At, Nothing}
 use Rattle.list_findings.specs.declared.Finding.{Finding}
 use Rattle.list_findings.specs.declared.Class.{Class}
 use Rattle.list_findings.specs.declared.Class.TheVariants.{DocumentOnly, Both, Either}
-use Rattle.list_findings.specs.declared.Merged.{Merged}
-use Rattle.list_findings.specs.declared.Merged.TheVariants.{Findings, Refused}
 use Rattle.list_findings.specs.Findings.{width, class_of, is_valid, precedes, records, filled}
 
 -- ---- refusal 12: a list that is no list of findings
 -- the number, from n on, of the first record that is not valid or does not stand behind the record before it, l
-unfoldable pub bad_after : ℕ → Finding → List Finding → Found
-bad_after n l [] = Nothing
-bad_after n l (r ∷ rs) = pick (is_valid r and precedes l r) (bad_after (n + 1) r rs) (At n)
+unfoldable pub bad_after : ℕ → Finding → List Finding → Option ℕ
+bad_after n l [] = None
+bad_after n l (r ∷ rs) = pick (is_valid r and precedes l r) (bad_after (n + 1) r rs) (Some n)
 
 -- what stands before the first record: procedure 0 at byte 0, which precedes all that are valid
 abbrev pub origin : Finding
 origin = record { procedure = 0; first = 0; after = 0 }
 
 -- the first that is found
-abbrev pub or_else : Found → Found → Found
-or_else (At n) f = At n
-or_else Nothing f = f
+abbrev pub or_else : Option ℕ → Option ℕ → Option ℕ
+or_else (Some n) f = Some n
+or_else None f = f
 
 -- a record at the end that is not whole
-abbrev pub partial : List ℕ → Found
-partial s = pick (eqb (length s % width) 0) Nothing (At (length s / width))
+abbrev pub partial : List ℕ → Option ℕ
+partial s = pick (eqb (length s % width) 0) None (Some (length s / width))
 
 -- the number from 0 of the first bad record of a run of numbers
-unfoldable pub first_bad_record : List ℕ → Found
+unfoldable pub first_bad_record : List ℕ → Option ℕ
 first_bad_record s = or_else (bad_after 0 origin (records s)) (partial s)
 
 -- ---- what two lists meet
@@ -72,50 +72,50 @@ keeping (keep r) rs = r ∷ rs
 keeping leave rs = rs
 keeping (fault at) rs = rs
 
-abbrev pub faulting : Verdict → Found → Found
+abbrev pub faulting : Verdict → Option ℕ → Option ℕ
 faulting (keep r) f = f
 faulting leave f = f
-faulting (fault at) f = At at
+faulting (fault at) f = Some at
 
 unfoldable pub kept : (ℕ → Class) → List Met → List Finding
 kept class [] = []
 kept class (m ∷ ms) = keeping (verdict class m) (kept class ms)
 
-unfoldable pub fault_of : (ℕ → Class) → List Met → Found
-fault_of class [] = Nothing
+unfoldable pub fault_of : (ℕ → Class) → List Met → Option ℕ
+fault_of class [] = None
 fault_of class (m ∷ ms) = faulting (verdict class m) (fault_of class ms)
 
 -- the merged list, and refusal 13: the first fault, which has the least first byte
 abbrev pub merged : List Finding → List Finding → List Finding
 merged a b = kept class_of (met a b)
 
-abbrev pub first_fault : List Finding → List Finding → Found
+abbrev pub first_fault : List Finding → List Finding → Option ℕ
 first_fault a b = fault_of class_of (met a b)
 
 -- ---- the answer, and what the third list holds then
 pub record Merging : Type 0 where
-  pub answer : Merged
+  pub answer : Result ℕ Refusal
   pub list : List ℕ
 
 -- a refusal with this number where something is found, which leaves the third list as it was
-abbrev pub merge_refused : ℕ → Found → List ℕ → Merging → Merging
-merge_refused number (At place) out otherwise = record { answer = Refused number place; list = out }
-merge_refused number Nothing out otherwise = otherwise
+abbrev pub merge_refused : Reason → Option ℕ → List ℕ → Merging → Merging
+merge_refused number (Some place) out otherwise = record { answer = refuses number place; list = out }
+merge_refused number None out otherwise = otherwise
 
 -- refusal 11: how many findings there are, where the room is for fewer
-abbrev pub too_many : List Finding → List ℕ → Found
-too_many rs out = pick (leb (length rs) (length out / width)) Nothing (At (length rs))
+abbrev pub too_many : List Finding → List ℕ → Option ℕ
+too_many rs out = pick (leb (length rs) (length out / width)) None (Some (length rs))
 
 -- 12 of the first list, 12 of the second, 13, 11, in this order
 unfoldable pub merge_of : List ℕ → List ℕ → List ℕ → Merging
 merge_of a b out =
-    merge_refused 12 (first_bad_record a) out
-    (merge_refused 12 (first_bad_record b) out
-    (merge_refused 13 (first_fault (records a) (records b)) out
-    (merge_refused 11 (too_many (merged (records a) (records b)) out) out
-    (record { answer = Findings (length (merged (records a) (records b))); list = filled (merged (records a) (records b)) out }))))
+    merge_refused BadList (first_bad_record a) out
+    (merge_refused BadList (first_bad_record b) out
+    (merge_refused NoMerge (first_fault (records a) (records b)) out
+    (merge_refused ShortList (too_many (merged (records a) (records b)) out) out
+    (record { answer = Ok (length (merged (records a) (records b))); list = filled (merged (records a) (records b)) out }))))
 
 -- the contract of the merge
-pub record IsMerged (a b out : List ℕ) (answer : Merged) (after : List ℕ) : Type 0 where
+pub record IsMerged (a b out : List ℕ) (answer : Result ℕ Refusal) (after : List ℕ) : Type 0 where
   pub answers : answer ≡ (merge_of a b out).answer
   pub leaves : after ≡ (merge_of a b out).list

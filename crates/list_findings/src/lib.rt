@@ -2,7 +2,7 @@
 #![tactic(auto)]
 
 ghost use Rattle.std.specs.Prelude.{◌≡◌, ◌+◌, ◌-◌, ◌≤◌, leb, length};
-ghost use Rattle.list_findings.specs.Findings.{width, is_among, class_of, is_valid, precedes, record_at, stored};
+ghost use Rattle.list_findings.specs.Findings.{width, class_of, is_valid, precedes, record_at, stored};
 
 // The numbers of a record.
 pub const WIDTH: usize = 3;
@@ -23,6 +23,15 @@ pub struct Finding {
     pub after: u32,
 }
 
+impl Finding {
+    // No finding: procedure 0 at byte 0, which stands before all that are valid.
+    pub const NONE: Finding = Finding {
+        procedure: 0,
+        first: 0,
+        after: 0,
+    };
+}
+
 // What the merge asks of a procedure's findings.
 #[derive(Clone, Copy)]
 pub enum Class {
@@ -31,75 +40,38 @@ pub enum Class {
     Either,
 }
 
-// The merge's answer: how many findings, or a refusal's number with what it returns.
-#[derive(Clone, Copy)]
-pub enum Merged {
-    Findings(usize),
-    Refused(u32, usize),
-}
-
-// Whether a procedure is one of a list.
-fn is_one_of(list: &[u32], procedure: u32) -> bool
-    ensures { result ≡ is_among list.now procedure }
-{
-    let mut i = 0;
-    while i < list.len() {
-        if procedure == list[i] {
-            return true;
-        }
-        i += 1;
-    }
-    false
-}
-
+// The class of a procedure, by the lists that name it.
 pub fn class_of(procedure: u32) -> Class
     ensures { result ≡ class_of procedure }
 {
-    let both = KEPT_BY_BOTH;
-    if is_one_of(&both, procedure) {
-        return Class::Both;
+    if KEPT_BY_BOTH.contains(&procedure) {
+        Class::Both
+    } else if KEPT_BY_EITHER.contains(&procedure) {
+        Class::Either
+    } else {
+        Class::DocumentOnly
     }
-    let either = KEPT_BY_EITHER;
-    if is_one_of(&either, procedure) {
-        return Class::Either;
-    }
-    Class::DocumentOnly
 }
 
 // Whether the procedure is one of 1 to the last, and the start below the end.
 pub fn is_valid(finding: Finding) -> bool
     ensures { result ≡ is_valid finding }
 {
-    if finding.procedure < 1 {
-        return false;
-    }
-    if LAST_PROCEDURE < finding.procedure {
-        return false;
-    }
-    finding.first < finding.after
+    1 <= finding.procedure && finding.procedure <= LAST_PROCEDURE && finding.first < finding.after
 }
 
-// Whether x stands before y: by the first byte, then by the procedure.
+// Whether x stands before y: by the first byte, then by the procedure. A derived order would go by the fields as the C interface has them.
 pub fn precedes(x: Finding, y: Finding) -> bool
     ensures { result ≡ precedes x y }
 {
-    if x.first < y.first {
-        return true;
-    }
-    if y.first < x.first {
-        return false;
-    }
-    x.procedure < y.procedure
+    (x.first, x.procedure) < (y.first, y.procedure)
 }
 
 // Whether a whole record stands at k.
 pub fn has_record(s: &[u32], k: usize) -> bool
     ensures { result ≡ leb width (length s.now - k) }
 {
-    if s.len() < k {
-        return false;
-    }
-    WIDTH <= s.len() - k
+    WIDTH <= s.len().saturating_sub(k)
 }
 
 // The record at k.

@@ -2,11 +2,12 @@
 -- Assumes nothing.
 use mathlib.Core.Path.{◌≡◌, refl, ◌∙◌}
 use mathlib.Core.List.{List, [], ◌∷◌}
-use Prim.Native.Nat.{ℕ, zero, suc, ◌+◌, ◌*◌, ◌/◌, ◌%◌, ◌^◌, ◌<◌, ◌≤◌}
+use Prim.Native.Nat.{ℕ, zero, suc, ◌+◌, ◌*◌, ◌/◌, ◌%◌, ◌^◌, ◌<◌}
 use native.Mathlib.Numerals.{add-one}
 use native.Mathlib.Omega.{arith}
-use lib.ListN.{length, drop, drop_of_length-le}
+use lib.ListN.{length, drop}
 use lib.Seq.{drop-cons}
+use Rattle.std.specs.Prelude.{Option, Some, None, slice_get}
 use mir.Val.{Fits}
 use mir.Syntax.{w64}
 use Rattle.text_scan.specs.Choice.{pick}
@@ -20,21 +21,17 @@ use Rattle.list_steps.specs.declared.Stepped.TheVariants.{Over, Fault, Leave, Ke
 use Rattle.list_steps.specs.Step.{verdict_step, alone_of, pair_of, merge_step}
 use Rattle.list_steps.proofs.Walk.{Says, said}
 use Rattle.list_steps.proofs.Counts.{Counts}
-use Rattle.list_merge.specs.declared.Next.{Next}
-use Rattle.list_merge.specs.declared.Next.TheVariants.{End, Record}
-use Rattle.list_merge.specs.Next.{nth, next_of, decide_of, Place}
+use Rattle.list_merge.specs.Next.{nth, decide_of, Place}
 
 -- ---- the record with a number, and the rest
 pub left_here : (rs : List Finding) (i : ℕ) → i < length rs → drop i rs ≡ nth rs i ∷ drop (i + 1) rs
 left_here rs i h = rw (add-one, drop-cons rs i origin)
 
-pub next_record : (rs : List Finding) (i : ℕ) (r : Finding) → i < length rs → r ≡ nth rs i → Record r ≡ next_of (drop i rs)
-unfolding next_of
-next_record rs i r h e = rw (left_here rs i h, e)
-
-pub next_end : (rs : List Finding) (i : ℕ) → length rs ≤ i → End ≡ next_of (drop i rs)
-unfolding next_of
-next_end rs i h = rw (drop_of_length-le rs h)
+-- the record with a number is the first of the rest
+first_left : (rs : List Finding) (i : ℕ) → slice_get rs i ≡ slice_get (drop i rs) 0
+first_left rs zero = refl
+first_left [] (suc i) = refl
+first_left (r ∷ rs) (suc i) = first_left rs i
 
 -- ---- the records from a place on
 from_record : (rs : List Finding) (i : ℕ) → records (drop (i * width) (flat rs)) ≡ drop i rs
@@ -54,33 +51,33 @@ pub place_fits : (rs : List Finding) (i : ℕ) → Place rs i → length rs * (4
 place_fits rs i p h = let g = p.within in omega (arith, length_flat rs)
 
 -- ---- a step, of the next records
-module _ (x : Next) (i : ℕ) (y : Next) (j : ℕ) where
-  pub decide_over : x ≡ End → y ≡ End → Over ≡ decide_of x i y j
+module _ (x : Option Finding) (i : ℕ) (y : Option Finding) (j : ℕ) where
+  pub decide_over : x ≡ None → y ≡ None → Over ≡ decide_of x i y j
   unfolding decide_of
   decide_over e f = rw (e, f)
 
-  pub decide_second : (g : Finding) (s : Stepped) → x ≡ End → y ≡ Record g → s ≡ alone_of g i (j + width) → s ≡ decide_of x i y j
+  pub decide_second : (g : Finding) (s : Stepped) → x ≡ None → y ≡ Some g → s ≡ alone_of g i (j + width) → s ≡ decide_of x i y j
   unfolding decide_of
   decide_second g s e f q = q ∙ rw (e, f)
 
-  pub decide_first : (g : Finding) (s : Stepped) → x ≡ Record g → y ≡ End → s ≡ alone_of g (i + width) j → s ≡ decide_of x i y j
+  pub decide_first : (g : Finding) (s : Stepped) → x ≡ Some g → y ≡ None → s ≡ alone_of g (i + width) j → s ≡ decide_of x i y j
   unfolding decide_of
   decide_first g s e f q = q ∙ rw (e, f)
 
-  pub decide_both : (g h : Finding) (s : Stepped) → x ≡ Record g → y ≡ Record h → s ≡ pair_of g h i j → s ≡ decide_of x i y j
+  pub decide_both : (g h : Finding) (s : Stepped) → x ≡ Some g → y ≡ Some h → s ≡ pair_of g h i j → s ≡ decide_of x i y j
   unfolding decide_of
   decide_both g h s e f q = q ∙ rw (e, f)
 
-decided : (xs : List Finding) (i : ℕ) (ys : List Finding) (j : ℕ) → decide_of (next_of xs) i (next_of ys) j ≡ merge_step xs i ys j
-unfolding decide_of next_of merge_step
+decided : (xs : List Finding) (i : ℕ) (ys : List Finding) (j : ℕ) → decide_of (slice_get xs 0) i (slice_get ys 0) j ≡ merge_step xs i ys j
+unfolding decide_of merge_step
 decided [] i [] j = refl
 decided [] i (y ∷ ys) j = refl
 decided (x ∷ xs) i [] j = refl
 decided (x ∷ xs) i (y ∷ ys) j = refl
 
 module _ (a : List Finding) (i : ℕ) (b : List Finding) (j : ℕ) (p : Place a i) (q : Place b j) where
-  pub step_is : (x y : Next) (s : Stepped) → x ≡ next_of (drop (i / width) a) → y ≡ next_of (drop (j / width) b) → s ≡ decide_of x i y j → s ≡ merge_step (records (drop i (flat a))) i (records (drop j (flat b))) j
-  step_is x y s ex ey e = e ∙ rw (ex, ey, from_place a i p, from_place b j q) (decided (drop (i / width) a) i (drop (j / width) b) j)
+  pub step_is : (x y : Option Finding) (s : Stepped) → x ≡ slice_get a (i / width) → y ≡ slice_get b (j / width) → s ≡ decide_of x i y j → s ≡ merge_step (records (drop i (flat a))) i (records (drop j (flat b))) j
+  step_is x y s ex ey e = e ∙ rw (ex, ey, first_left a (i / width), first_left b (j / width), from_place a i p, from_place b j q) (decided (drop (i / width) a) i (drop (j / width) b) j)
 
 -- a walk passes a record for each finding that it keeps
 pub count_fits : (a b : List Finding) (i j n : ℕ) → Counts (flat a) (flat b) i j n → length a * (4 * width) < 2 ^ 63 → length b * (4 * width) < 2 ^ 63 → Fits w64 (n + 1)

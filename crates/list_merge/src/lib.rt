@@ -3,59 +3,35 @@
 // A place in a list is counted in numbers, as in `list_steps`, so that the steps are the same.
 #![tactic(auto)]
 
-ghost use Rattle.std.specs.Prelude.{◌≡◌, ◌+◌, ◌/◌, ◌^◌, ◌<◌, ◌≤◌, length, drop};
+ghost use Rattle.std.specs.Prelude.{◌≡◌, ◌+◌, ◌/◌, ◌^◌, ◌<◌, ◌≤◌, length, drop, slice_get, None};
 ghost use Rattle.text_scan.specs.Choice.{◌and◌};
-ghost use Rattle.text_scan.specs.declared.Found.{Found};
 ghost use Rattle.list_findings.specs.Findings.{width, is_valid, precedes, records, flat, filled};
 ghost use Rattle.list_findings.specs.Merge.{first_bad_record, merged, first_fault, IsMerged};
 ghost use Rattle.list_steps.specs.Step.{merge_step, survey_of};
-ghost use Rattle.list_merge.specs.Next.{nth, next_of, decide_of, Place};
+ghost use Rattle.list_merge.specs.Next.{decide_of, Place};
 ghost use Rattle.list_merge.specs.Judge.{judge_of};
 
-use list_findings::{Finding, Merged};
-use list_steps::{Stepped, Surveyed};
-use text_scan::Found;
+use list_findings::Finding;
+use list_steps::{Differ, Stepped};
+use refusals::{Reason, Refusal};
 
-// The next record of a list, if there is one.
-#[derive(Clone, Copy)]
-pub enum Next {
-    End,
-    Record(Finding),
-}
-
-// The record with number i: the one function that reads an element.
-fn record_at(list: &[Finding], i: usize) -> Finding
-    requires { i < length list.now }
-    ensures { result ≡ nth list.now i }
+// The record at a place, if there is one.
+fn next_at(list: &[Finding], place: usize) -> Option<Finding>
+    ensures { result ≡ slice_get list.now (place / width) }
 {
-    list[i]
-}
-
-// The record at a place.
-fn next_at(list: &[Finding], place: usize) -> Next
-    ensures { result ≡ next_of (drop (place / width) list.now) }
-{
-    let i = place / list_findings::WIDTH;
-    if i < list.len() {
-        return Next::Record(record_at(list, i));
-    }
-    Next::End
+    list.get(place / list_findings::WIDTH).copied()
 }
 
 // What is done with the next records of two lists, at places i and j.
-fn decide(x: Next, i: usize, y: Next, j: usize) -> Stepped
+fn decide(x: Option<Finding>, i: usize, y: Option<Finding>, j: usize) -> Stepped
     requires { (i + width < 2 ^ 64) × (j + width < 2 ^ 64) }
     ensures { result ≡ decide_of x i y j }
 {
-    match x {
-        Next::End => match y {
-            Next::End => Stepped::Over,
-            Next::Record(g) => list_steps::alone(g, i, j + list_findings::WIDTH),
-        },
-        Next::Record(f) => match y {
-            Next::End => list_steps::alone(f, i + list_findings::WIDTH, j),
-            Next::Record(g) => list_steps::pair(f, g, i, j),
-        },
+    match (x, y) {
+        (None, None) => Stepped::Over,
+        (None, Some(g)) => list_steps::alone(g, i, j + list_findings::WIDTH),
+        (Some(f), None) => list_steps::alone(f, i + list_findings::WIDTH, j),
+        (Some(f), Some(g)) => list_steps::pair(f, g, i, j),
     }
 }
 
@@ -71,35 +47,25 @@ fn step(a: &[Finding], i: usize, b: &[Finding], j: usize) -> Stepped
 fn follows(last: Finding, next: Finding) -> bool
     ensures { result ≡ (is_valid next and precedes last next) }
 {
-    if !list_findings::is_valid(next) {
-        return false;
-    }
-    list_findings::precedes(last, next)
+    list_findings::is_valid(next) && list_findings::precedes(last, next)
 }
 
 // The number of the first bad record.
-fn first_bad(list: &[Finding]) -> Found
+fn first_bad(list: &[Finding]) -> Option<usize>
     ensures { result ≡ first_bad_record (flat list.now) }
 {
-    let mut last = Finding {
-        procedure: 0,
-        first: 0,
-        after: 0,
-    };
-    let mut n = 0;
-    while n < list.len() {
-        let next = record_at(list, n);
-        if !follows(last, next) {
-            return Found::At(n);
+    let mut last = Finding::NONE;
+    for (n, next) in list.iter().enumerate() {
+        if !follows(last, *next) {
+            return Some(n);
         }
-        last = next;
-        n += 1;
+        last = *next;
     }
-    Found::Nothing
+    None
 }
 
 // Walks two lists together, and counts what is kept.
-fn survey(a: &[Finding], b: &[Finding]) -> Surveyed
+fn survey(a: &[Finding], b: &[Finding]) -> Result<usize, Differ>
     ensures { result ≡ survey_of 0 (records (flat a.now)) (records (flat b.now)) }
 {
     let mut i = 0;
@@ -107,8 +73,8 @@ fn survey(a: &[Finding], b: &[Finding]) -> Surveyed
     let mut n = 0;
     loop {
         match step(a, i, b, j) {
-            Stepped::Over => return Surveyed::Count(n),
-            Stepped::Fault(at) => return Surveyed::Fault(at),
+            Stepped::Over => return Ok(n),
+            Stepped::Fault(first) => return Err(Differ { first }),
             Stepped::Leave(x, y) => {
                 i = x;
                 j = y;
@@ -124,7 +90,7 @@ fn survey(a: &[Finding], b: &[Finding]) -> Surveyed
 
 // Walks two lists together, and appends what is kept to a third.
 fn write(a: &[Finding], b: &[Finding], out: &mut [u32])
-    requires { (first_fault (records (flat a.now)) (records (flat b.now)) ≡ Found.Nothing) × (length (merged (records (flat a.now)) (records (flat b.now))) ≤ length out.old / width) }
+    requires { (first_fault (records (flat a.now)) (records (flat b.now)) ≡ None) × (length (merged (records (flat a.now)) (records (flat b.now))) ≤ length out.old / width) }
     ensures { out.new ≡ filled (merged (records (flat a.now)) (records (flat b.now))) out.old }
 {
     let mut i = 0;
@@ -148,28 +114,41 @@ fn write(a: &[Finding], b: &[Finding], out: &mut [u32])
 }
 
 // The refusals in their order, of what was found and the room for records; or how many findings there are.
-fn judge(first: Found, second: Found, found: Surveyed, room: usize) -> Merged
+fn judge(
+    first: Option<usize>,
+    second: Option<usize>,
+    found: Result<usize, Differ>,
+    room: usize,
+) -> Result<usize, Refusal>
     ensures { result ≡ judge_of first second found room }
 {
-    if let Found::At(n) = first {
-        return Merged::Refused(12, n);
+    if let Some(n) = first {
+        return Err(Refusal {
+            reason: Reason::BadList,
+            value: n,
+        });
     }
-    if let Found::At(n) = second {
-        return Merged::Refused(12, n);
+    if let Some(n) = second {
+        return Err(Refusal {
+            reason: Reason::BadList,
+            value: n,
+        });
     }
     match found {
-        Surveyed::Fault(at) => Merged::Refused(13, at),
-        Surveyed::Count(n) => {
-            if room < n {
-                return Merged::Refused(11, n);
-            }
-            Merged::Findings(n)
-        }
+        Err(differ) => Err(Refusal {
+            reason: Reason::NoMerge,
+            value: differ.first,
+        }),
+        Ok(n) if room < n => Err(Refusal {
+            reason: Reason::ShortList,
+            value: n,
+        }),
+        Ok(n) => Ok(n),
     }
 }
 
 // Merges two lists of findings into a third, from its front, and answers how many there are; or refuses, and leaves it as it was.
-pub fn merge(a: &[Finding], b: &[Finding], out: &mut [u32]) -> Merged
+pub fn merge(a: &[Finding], b: &[Finding], out: &mut [u32]) -> Result<usize, Refusal>
     ensures { IsMerged (flat a.now) (flat b.now) out.old result out.new }
 {
     let answer = judge(
@@ -178,7 +157,7 @@ pub fn merge(a: &[Finding], b: &[Finding], out: &mut [u32]) -> Merged
         survey(a, b),
         out.len() / list_findings::WIDTH,
     );
-    let Merged::Findings(_) = answer else {
+    let Ok(_) = answer else {
         return answer;
     };
     write(a, b, out);

@@ -5,31 +5,15 @@ use mathlib.Core.Bool.{Bool, true, false}
 use mathlib.Core.List.{List}
 use Prim.Native.Nat.{ℕ, suc, ◌+◌, ◌-◌, ◌*◌, ◌/◌, ◌<◌, ◌≤◌}
 use native.Mathlib.Omega.{arith}
-use borrow.Author.Tests.{le-leb, lt-leb, leb-true}
+use borrow.Author.Tests.{le-leb, leb-true}
 use lib.Dec.{leb}
 use lib.ListN.{length, take, drop, set, length-set}
 use lib.Seq.{sets, sets-eq, length-take-le}
 use Rattle.text_scan.proofs.Tests.{and_left, and_right}
-use Rattle.text_scan.proofs.Within.{inside}
 use Rattle.list_findings.specs.declared.Finding.{Finding}
 use Rattle.list_findings.specs.Findings.{width, records, first_records, record_at}
 use Rattle.list_findings.proofs.Records.{records_here, length_records}
 use Rattle.list_records.specs.Kept.{fitting, kept_in}
-
--- ---- whether records fit
-module _ (numbers n room at : ℕ) where
-  pub too_few : numbers / width < n → false ≡ fitting numbers n room at
-  too_few h = rw (lt-leb n (numbers / width) h)
-
-  module _ (h : n ≤ numbers / width) where
-    pub no_room : room < at → false ≡ fitting numbers n room at
-    no_room g = let f : room < at + n = omega arith in rw (le-leb n (numbers / width) h, lt-leb (at + n) room f)
-
-    pub room_left : (t : Bool) → at ≤ room → t ≡ leb n (room - at) → t ≡ fitting numbers n room at
-    room_left t g e =
-        e ∙ inside n (room - at)
-        (λ f. let k : room < at + n = omega arith in rw (le-leb n (numbers / width) h, lt-leb n (room - at) f, lt-leb (at + n) room k))
-        (λ f. let k : at + n ≤ room = omega arith in rw (le-leb n (numbers / width) h, le-leb n (room - at) f, le-leb (at + n) room k))
 
 -- ---- the loop
 pub record Keeping (list : List ℕ) (n : ℕ) (old : List Finding) (at : ℕ) (room : List Finding) (i : ℕ) : Type 0 where
@@ -60,11 +44,8 @@ module _ (list : List ℕ) (n : ℕ) (old : List Finding) (at : ℕ) (t : Bool) 
 
 module _ (list : List ℕ) (n : ℕ) (old : List Finding) (at : ℕ) (room : List Finding) (i : ℕ) (l : Keeping list n old at room i) where
   module _ (h : i < n) where
-    pub record_there : i * width + width ≤ length list
+    record_there : i * width + width ≤ length list
     record_there = let w = l.whole in omega arith
-
-    pub room_there : at + i < length room
-    room_there = let w = l.roomy in let v = l.long in omega arith
 
     pub keep_next : (r : Finding) (new : List Finding) → r ≡ record_at list (i * width) → new ≡ set room (at + i) r → Keeping list n old at new (i + 1)
     keep_next r new e f =

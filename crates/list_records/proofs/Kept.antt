@@ -1,5 +1,7 @@
 -- What stands in a room where records were kept.
 -- Assumes nothing.
+use Rattle.std.specs.Prelude.{Result}
+use Rattle.refusals.specs.declared.Refusal.{Refusal}
 use mathlib.Core.Path.{◌≡◌, refl, ap}
 use mathlib.Core.Bool.{Bool, true, false}
 use mathlib.Core.List.{List, [], ◌∷◌, ◌++◌, append_assoc}
@@ -12,7 +14,6 @@ use lib.Seq.{length-take-le, take_at, drop_at}
 use Rattle.text_scan.specs.Choice.{pick}
 use Rattle.text_scan.proofs.Tests.{and_left, and_right}
 use Rattle.list_findings.specs.declared.Finding.{Finding}
-use Rattle.list_findings.specs.declared.Merged.{Merged}
 use Rattle.list_findings.specs.Findings.{width, records, first_records, flat}
 use Rattle.list_findings.specs.Merge.{IsMerged}
 use Rattle.list_findings.proofs.Records.{length_records}
@@ -67,5 +68,5 @@ module _ (room : List Finding) (n m : ℕ) where
   pub first_long : n + m ≤ length room → length (take n room) ≡ n
   first_long h = length-take-le n room (omega arith)
 
-  pub parts_merged : (out : List ℕ) (r : Merged) (after : List ℕ) → IsMerged (flat (take n room)) (flat (take (n + m - n) (drop n room))) out r after → IsMerged (flat (take n room)) (flat (take m (drop n room))) out r after
+  pub parts_merged : (out : List ℕ) (r : Result ℕ Refusal) (after : List ℕ) → IsMerged (flat (take n room)) (flat (take (n + m - n) (drop n room))) out r after → IsMerged (flat (take n room)) (flat (take m (drop n room))) out r after
   parts_merged out r after w = let z : n + m - n ≡ m = omega arith in rw z at w

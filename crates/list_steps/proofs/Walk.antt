@@ -1,5 +1,6 @@
 -- The walk over two lists: what a step says of what is kept, of the faults, and of the places after it.
 -- Assumes nothing.
+use Rattle.std.specs.Prelude.{None, Some}
 use mathlib.Core.Path.{◌≡◌, refl}
 use mathlib.Core.Bool.{Bool, true, false}
 use mathlib.Core.List.{List, [], ◌∷◌, ◌++◌}
@@ -7,7 +8,6 @@ use Prim.Native.Nat.{ℕ, ◌+◌, ◌-◌, ◌<◌, ◌≤◌}
 use native.Mathlib.Omega.{arith}
 use lib.ListN.{length, drop}
 use Rattle.text_scan.specs.Choice.{pick}
-use Rattle.text_scan.specs.declared.Found.TheVariants.{At, Nothing}
 use Rattle.text_scan.proofs.Within.{inside}
 use Rattle.list_findings.specs.declared.Finding.{Finding}
 use Rattle.list_findings.specs.Findings.{width, class_of, precedes, records, record_at}
@@ -32,8 +32,8 @@ pub record Kept (a : List ℕ) (i : ℕ) (b : List ℕ) (j : ℕ) (rs : List Fin
   pub faults : first_fault (records (drop i a)) (records (drop j b)) ≡ first_fault (records (drop x a)) (records (drop y b))
 
 abbrev pub Says : List ℕ → ℕ → List ℕ → ℕ → Stepped → Type 0
-Says a i b j Over = (merged (records (drop i a)) (records (drop j b)) ≡ []) × (first_fault (records (drop i a)) (records (drop j b)) ≡ Nothing)
-Says a i b j (Fault at) = first_fault (records (drop i a)) (records (drop j b)) ≡ At at
+Says a i b j Over = (merged (records (drop i a)) (records (drop j b)) ≡ []) × (first_fault (records (drop i a)) (records (drop j b)) ≡ None)
+Says a i b j (Fault at) = first_fault (records (drop i a)) (records (drop j b)) ≡ Some at
 Says a i b j (Leave x y) = Kept a i b j [] x y
 Says a i b j (Keep r x y) = Kept a i b j (r ∷ []) x y
 

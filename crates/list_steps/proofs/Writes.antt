@@ -1,12 +1,12 @@
 -- The walk that writes: the list that all findings make, stored from the front, is the list that the rest makes, stored from here.
 -- Assumes nothing.
+use Rattle.std.specs.Prelude.{None}
 use mathlib.Core.Path.{◌≡◌, refl, sym, ◌∙◌}
 use mathlib.Core.List.{List}
 use Prim.Native.Nat.{ℕ, ◌+◌, ◌/◌, ◌≤◌}
 use native.Mathlib.Omega.{arith}
 use lib.ListN.{length, drop}
 use lib.Seq.{sets}
-use Rattle.text_scan.specs.declared.Found.TheVariants.{Nothing}
 use Rattle.list_findings.specs.declared.Finding.{Finding}
 use Rattle.list_findings.specs.Findings.{width, records, flat, filled, stored}
 use Rattle.list_findings.specs.Merge.{merged, first_fault}
@@ -19,13 +19,13 @@ use Rattle.list_steps.proofs.Walk.{said}
 
 pub record Writes (a b old out : List ℕ) (i j k : ℕ) : Type 0 where
   pub writes : sets old 0 (flat (merged (records a) (records b))) ≡ sets out k (flat (merged (records (drop i a)) (records (drop j b))))
-  pub faultless : first_fault (records (drop i a)) (records (drop j b)) ≡ Nothing
+  pub faultless : first_fault (records (drop i a)) (records (drop j b)) ≡ None
   pub fits : k + length (flat (merged (records (drop i a)) (records (drop j b)))) ≤ length out
   pub long : length out ≡ length old
   pub within : i ≤ length a
   pub within' : j ≤ length b
 
-pub writes_start : (a b out : List ℕ) → first_fault (records a) (records b) ≡ Nothing → length (merged (records a) (records b)) ≤ length out / width → Writes a b out out 0 0 0
+pub writes_start : (a b out : List ℕ) → first_fault (records a) (records b) ≡ None → length (merged (records a) (records b)) ≤ length out / width → Writes a b out out 0 0 0
 writes_start a b out f h =
     record { writes = refl; faultless = f; fits = omega (arith, length_flat (merged (records a) (records b))); long = refl; within = omega arith; within' = omega arith }
 

@@ -1,17 +1,14 @@
 -- One step of the walk over two lists, as the code takes it: what is met first, with the places after it. No definition of document 01: the contract of
 -- the merge names none of these, only those of the functions under it.
 -- Assumes nothing.
-use Rattle.std.specs.Prelude.{ℕ, ◌+◌, List, [], ◌∷◌, length}
+use Rattle.std.specs.Prelude.{ℕ, ◌+◌, List, [], ◌∷◌, length, Result, Ok, Err, Option, None, Some}
 use Rattle.text_scan.specs.Choice.{pick}
-use Rattle.text_scan.specs.declared.Found.{Found}
-use Rattle.text_scan.specs.declared.Found.TheVariants.{At, Nothing}
 use Rattle.list_findings.specs.declared.Finding.{Finding}
 use Rattle.list_findings.specs.Findings.{width, class_of, precedes}
 use Rattle.list_findings.specs.Merge.{alone, twice, Verdict, keep, leave, fault, verdict, merged, first_fault}
 use Rattle.list_steps.specs.declared.Stepped.{Stepped}
 use Rattle.list_steps.specs.declared.Stepped.TheVariants.{Over, Fault, Leave, Keep}
-use Rattle.list_steps.specs.declared.Surveyed.{Surveyed}
-use Rattle.list_steps.specs.declared.Surveyed.TheVariants.{Count, Fault as Faulty}
+use Rattle.list_steps.specs.declared.Differ.{Differ}
 
 -- a verdict, with the places after what was met
 abbrev pub verdict_step : Verdict → ℕ → ℕ → Stepped
@@ -36,9 +33,9 @@ merge_step (x ∷ xs) i [] j = alone_of x (i + width) j
 merge_step (x ∷ xs) i (y ∷ ys) j = pair_of x y i j
 
 -- the first fault, or n with the findings that are kept
-abbrev pub counted : ℕ → Found → List Finding → Surveyed
-counted n (At at) rs = Faulty at
-counted n Nothing rs = Count (n + length rs)
+abbrev pub counted : ℕ → Option ℕ → List Finding → Result ℕ Differ
+counted n (Some at) rs = Err (record { first = at })
+counted n None rs = Ok (n + length rs)
 
-abbrev pub survey_of : ℕ → List Finding → List Finding → Surveyed
+abbrev pub survey_of : ℕ → List Finding → List Finding → Result ℕ Differ
 survey_of n a b = counted n (first_fault a b) (merged a b)

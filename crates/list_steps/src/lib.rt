@@ -18,19 +18,17 @@ pub enum Stepped {
     Keep(Finding, usize, usize),
 }
 
-// What the walk finds: how many findings are kept, or the first fault.
-#[derive(Clone, Copy)]
-pub enum Surveyed {
-    Count(usize),
-    Fault(usize),
+// Why two lists cannot be merged: they differ, first at a finding with this first byte.
+#[derive(Clone, Copy, PartialEq, Eq)]
+pub struct Differ {
+    pub first: usize,
 }
 
 // A finding that stands in one list alone, with the places after it.
 pub fn alone(finding: Finding, i: usize, j: usize) -> Stepped
     ensures { result ≡ alone_of finding i j }
 {
-    let class = list_findings::class_of(finding.procedure);
-    match class {
+    match list_findings::class_of(finding.procedure) {
         Class::DocumentOnly => Stepped::Fault(finding.first as usize),
         Class::Both => Stepped::Leave(i, j),
         Class::Either => Stepped::Keep(finding, i, j),

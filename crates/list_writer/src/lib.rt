@@ -17,10 +17,7 @@ pub struct Listing<'a> {
 pub fn hold<'a>(list: &'a mut [u32], count: usize) -> Listing<'a>
     ensures { (result.list ≡ list.entry) × (result.count ≡ count) }
 {
-    Listing {
-        list: list,
-        count: count,
-    }
+    Listing { list, count }
 }
 
 // Stores a record behind `count` records if there is room, and says how many records there are then.

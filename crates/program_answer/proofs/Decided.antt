@@ -1,8 +1,15 @@
--- The contract of `run` decides what is answered and left; `read` leaves open what stands in a file.
+-- The contracts of `print` and `run` decide what is answered and left.
 -- Assumes nothing.
 use Rattle.text_scan.proofs.Decides.{only, Answers, Decides}
 use Rattle.program_texts.proofs.Decided.{one_room}
+use Rattle.program_answer.proofs.print
 use Rattle.program_answer.proofs.run
+
+pub print_decided : Answers print.Kinds.ps print.Kinds.r print.Reads.Post
+print_decided κs a x y s t p q = only p.ends q.ends
+
+pub print_out : Decides print.Kinds.ps print.Kinds.r print.Reads.Post (λ κs x s. s.1.1.0.now)
+print_out κs a x y s t p q = one_room _ _ _ x y _ _ p q
 
 pub run_decided : Answers run.Kinds.ps run.Kinds.r run.Reads.Post
 run_decided κs a x y s t p q = only p.prints.ends q.prints.ends

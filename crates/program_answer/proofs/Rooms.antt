@@ -1,4 +1,4 @@
--- What is read and what is printed stand within their rooms: what a caller needs to lend the front of one.
+-- What is printed stands within its room: what a caller needs to lend the front of it.
 -- Assumes nothing.
 use mathlib.Core.Path.{◌≡◌, sym}
 use mathlib.Core.List.{List}
@@ -7,16 +7,7 @@ use lib.ListN.{length, take}
 use lib.Seq.{length-take-le}
 use Rattle.judge_check.specs.Check.{Outcome}
 use Rattle.program_texts.proofs.Puts.{put_within}
-use Rattle.program_answer.specs.declared.Got.{Got}
-use Rattle.program_answer.specs.declared.Got.TheVariants.{Bytes}
-use Rattle.program_answer.specs.Small.{Within, Prints}
-
-module _ (g : Got) (n : ℕ) (room : List ℕ) (e : g ≡ Bytes n) (w : Within g room) where
-  pub read_within : n ≤ length room
-  read_within = rw e at w
-
-  pub read_front : n ≡ length (take n room)
-  read_front = sym (length-take-le n room read_within)
+use Rattle.program_answer.specs.Small.{Prints}
 
 module _ (x : Outcome) (r : ℕ) (table list old out : List ℕ) (p : Prints x r table list old out) where
   pub printed_within : r ≤ length out

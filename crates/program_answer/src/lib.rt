@@ -3,11 +3,10 @@
 
 ghost use Rattle.std.specs.Prelude.{◌+◌, ◌*◌, ◌≤◌, length};
 ghost use Rattle.program_texts.specs.Texts.{Put};
-ghost use Rattle.program_answer.specs.Small.{Within, AnswerLeft, small_of, printed, Prints};
+ghost use Rattle.program_answer.specs.Small.{AnswerLeft, small_of, printed, Prints};
 
-use judge_findings::Answer;
-use std::io;
-use std::io::Read;
+pub use program_input::read;
+use refusals::{Reason, Refusal};
 use xml_reader::Reader;
 
 // The most bytes of a document, and of tables.
@@ -20,53 +19,39 @@ pub const FINDINGS: usize = 1024;
 
 pub const TEXT: usize = 65536;
 
-// What a reading came to: so many bytes, or a fault, which is told.
-#[derive(Clone, Copy)]
-pub enum Got {
-    Bytes(usize),
-    Failed(io::Error),
-}
-
-// Reads until the room is full or the input ends.
-pub fn read<R: Read>(file: &mut R, room: &mut [u8]) -> Got
-    ensures { Within result room.new }
-{
-    let mut done = 0;
-    while done < room.len() {
-        let n = match file.read(&mut room[done..]) {
-            Ok(n) => n,
-            Err(e) => return Got::Failed(e),
-        };
-        if n == 0 {
-            return Got::Bytes(done);
-        }
-        done += n;
-    }
-    Got::Bytes(done)
-}
-
 // The check with as many scratch bytes as it asks for, of a document and tables within the limit.
-fn answer(document: &[u8], tables: &[u8], elements: &mut [u32], list: &mut [u32]) -> Answer
+fn answer(
+    document: &[u8],
+    tables: &[u8],
+    elements: &mut [u32],
+    list: &mut [u32],
+) -> Result<usize, Refusal>
     ensures { AnswerLeft (small_of document.now tables.now elements.old list.old) result elements.new list.new }
 {
     if LIMIT < document.len() {
-        return Answer::Refused(1, LIMIT);
+        return Err(Refusal {
+            reason: Reason::LongDocument,
+            value: LIMIT,
+        });
     }
     if LIMIT < tables.len() {
-        return Answer::Refused(2, LIMIT);
+        return Err(Refusal {
+            reason: Reason::LongTables,
+            value: LIMIT,
+        });
     }
     let mut scratch = [0u8; Reader::SCRATCH];
     judge_check::check(document, tables, &mut scratch, elements, list)
 }
 
 // Puts the text of an answer, with the findings of a list, into the front of a room: its length.
-fn print(answer: Answer, list: &[u32], out: &mut [u8]) -> usize
+pub fn print(answer: Result<usize, Refusal>, list: &[u32], out: &mut [u8]) -> usize
     requires { 64 + 21 * length list.now ≤ length out.old }
     ensures { Put out.old 0 (printed answer list.now) result out.new }
 {
     match answer {
-        Answer::Findings(n) => program_texts::put_list(out, list, n),
-        Answer::Refused(number, place) => program_texts::put_refusal(out, number, place),
+        Ok(n) => program_texts::put_list(out, list, n),
+        Err(refusal) => program_texts::put_refusal(out, refusal.reason.number(), refusal.value),
     }
 }
 

@@ -8,32 +8,17 @@ use std::io;
 
 // What the first bad byte of a string of the one byte b should be: 1, which is none, at tab, line feed, carriage return and 20 to 7F.
 fn wanted(b: u8) -> usize {
-    if b == 9 {
-        return 1;
+    match b {
+        b'\t' | b'\n' | b'\r' | 0x20..=0x7F => 1,
+        _ => 0,
     }
-    if b == 10 {
-        return 1;
-    }
-    if b == 13 {
-        return 1;
-    }
-    if b < 0x20 {
-        return 0;
-    }
-    if b < 0x80 {
-        return 1;
-    }
-    0
 }
 
 // 1 where the first bad byte of s stands at `at`, else 0.
 fn at(s: &[u8], at: usize) -> u64
     ensures { result ≤ 1 }
 {
-    if text_chars::first_bad(s) == at {
-        return 1;
-    }
-    0
+    u64::from(text_chars::first_bad(s) == at)
 }
 
 fn one_byte() -> u64 {

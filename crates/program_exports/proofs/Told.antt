@@ -1,13 +1,11 @@
 -- What the library answers, told in numbers.
 -- Assumes nothing.
+use Rattle.std.specs.Prelude.{Result, Ok, Err}
+use Rattle.refusals.specs.declared.Refusal.{Refusal}
 use Prim.Native.Nat.{ℕ}
 use mathlib.Core.Path.{◌≡◌, sym, ap, ◌∙◌}
 use mathlib.Core.List.{List}
-use Rattle.list_findings.specs.declared.Merged.{Merged}
-use Rattle.list_findings.specs.declared.Merged.TheVariants.{Findings as Kept, Refused as Unmerged}
 use Rattle.list_findings.specs.Merge.{merge_of, IsMerged}
-use Rattle.judge_findings.specs.declared.Answer.{Answer}
-use Rattle.judge_findings.specs.declared.Answer.TheVariants.{Findings, Refused}
 use Rattle.judge_check.specs.Check.{Outcome as Checking, CheckLeft}
 use Rattle.xml_values.specs.declared.View.{View}
 use Rattle.xml_values.specs.declared.View.TheVariants.{Document, Scratch}
@@ -17,26 +15,12 @@ use Rattle.program_exports.specs.declared.Part.{Part}
 use Rattle.program_exports.specs.Numbers.{check_numbers, merge_numbers, shown_part, Checks, Merges, Reads}
 
 -- ---- the check
-module _ (answer : Answer) where
-  pub found : (n : ℕ) → answer ≡ Findings n → ◌≡◌ {A = Numbers} (record { refusal = 0; value = n }) (check_numbers answer)
-  found n e = sym (ap check_numbers e)
-
-  pub refused : (number value : ℕ) → answer ≡ Refused number value → ◌≡◌ {A = Numbers} (record { refusal = number; value = value }) (check_numbers answer)
-  refused number value e = sym (ap check_numbers e)
-
-pub check_told : (x : Checking) (answer : Answer) (scratch table list : List ℕ) (r : Numbers) → CheckLeft x answer scratch table list → r ≡ check_numbers answer → Checks x r scratch table list
+pub check_told : (x : Checking) (answer : Result ℕ Refusal) (scratch table list : List ℕ) (r : Numbers) → CheckLeft x answer scratch table list → r ≡ check_numbers answer → Checks x r scratch table list
 check_told x answer scratch table list r l e =
     record { answers = e ∙ ap check_numbers l.answers; scratches = l.scratches; tables = l.tables; lists = l.lists }
 
 -- ---- the merge
-module _ (answer : Merged) where
-  pub kept : (n : ℕ) → answer ≡ Kept n → ◌≡◌ {A = Numbers} (record { refusal = 0; value = n }) (merge_numbers answer)
-  kept n e = sym (ap merge_numbers e)
-
-  pub unmerged : (number value : ℕ) → answer ≡ Unmerged number value → ◌≡◌ {A = Numbers} (record { refusal = number; value = value }) (merge_numbers answer)
-  unmerged number value e = sym (ap merge_numbers e)
-
-pub merge_told : (a b out : List ℕ) (answer : Merged) (after : List ℕ) (r : Numbers) → IsMerged a b out answer after → r ≡ merge_numbers answer → Merges (merge_of a b out) r after
+pub merge_told : (a b out : List ℕ) (answer : Result ℕ Refusal) (after : List ℕ) (r : Numbers) → IsMerged a b out answer after → r ≡ merge_numbers answer → Merges (merge_of a b out) r after
 merge_told a b out answer after r m e = record { answers = e ∙ ap merge_numbers m.answers; lists = m.leaves }
 
 -- ---- the value reader

@@ -1,11 +1,10 @@
 -- What the exported functions return: document 01's number and value for each case of an answer, and the part that a view shows.
 -- Assumes nothing.
-use Rattle.std.specs.Prelude.{ℕ, ◌≡◌, List, get_or}
+use Rattle.std.specs.Prelude.{ℕ, ◌≡◌, List, get_or, Result}
+use Rattle.refusals.specs.declared.Refusal.{Refusal}
 use Rattle.text_scan.specs.Numbered.{Numbered}
-use Rattle.list_findings.specs.declared.Merged.{Merged}
 use Rattle.list_findings.specs.Merge.{Merging}
 use Rattle.list_findings.specs.Numbered.{numbered_merge}
-use Rattle.judge_findings.specs.declared.Answer.{Answer}
 use Rattle.judge_findings.specs.Numbered.{numbered_check}
 use Rattle.judge_check.specs.Check.{Outcome as Checking}
 use Rattle.xml_values.specs.declared.View.{View}
@@ -22,10 +21,10 @@ version = 2
 abbrev pub told : Numbered → Numbers
 told x = record { refusal = x.number; value = get_or x.values 0 0 }
 
-abbrev pub check_numbers : Answer → Numbers
+abbrev pub check_numbers : Result ℕ Refusal → Numbers
 check_numbers answer = told (numbered_check answer)
 
-abbrev pub merge_numbers : Merged → Numbers
+abbrev pub merge_numbers : Result ℕ Refusal → Numbers
 merge_numbers answer = told (numbered_merge answer)
 
 -- ---- the value reader: a part of the document, or the front of the scratch area

@@ -8,7 +8,8 @@ ghost use Rattle.list_findings.specs.Findings.{flat};
 ghost use Rattle.list_findings.specs.Merge.{merge_of};
 ghost use Rattle.xml_value_reader.specs.Shown.{shown_of};
 
-use list_findings::{Finding, Merged};
+use list_findings::Finding;
+use refusals::Refusal;
 use xml_values::View;
 
 // A refusal's number with what it returns; or 0 with how many findings there are.
@@ -28,32 +29,19 @@ pub struct Part {
     pub after: usize,
 }
 
-fn check_numbers(answer: judge_findings::Answer) -> Numbers
-    ensures { result ≡ check_numbers answer }
+// What is returned of the answer of a check and of a merge: the number of the refusal, or 0, and the value.
+fn numbers_of(answer: Result<usize, Refusal>) -> Numbers
+    ensures of_check { result ≡ check_numbers answer }
+    ensures of_merge { result ≡ merge_numbers answer }
 {
     match answer {
-        judge_findings::Answer::Findings(count) => Numbers {
+        Ok(count) => Numbers {
             refusal: 0,
             value: count,
         },
-        judge_findings::Answer::Refused(number, returned) => Numbers {
-            refusal: number,
-            value: returned,
-        },
-    }
-}
-
-fn merge_numbers(answer: Merged) -> Numbers
-    ensures { result ≡ merge_numbers answer }
-{
-    match answer {
-        Merged::Findings(count) => Numbers {
-            refusal: 0,
-            value: count,
-        },
-        Merged::Refused(number, returned) => Numbers {
-            refusal: number,
-            value: returned,
+        Err(refusal) => Numbers {
+            refusal: refusal.reason.number(),
+            value: refusal.value,
         },
     }
 }
@@ -94,7 +82,7 @@ pub extern "C" fn bd_check(
 ) -> Numbers
     ensures { Checks (check_of document.now tables.now scratch.old elements.old list.old) result scratch.new elements.new list.new }
 {
-    check_numbers(judge_check::check(document, tables, scratch, elements, list))
+    numbers_of(judge_check::check(document, tables, scratch, elements, list))
 }
 
 // Merges two lists of findings into a third, from its front.
@@ -102,7 +90,7 @@ pub extern "C" fn bd_check(
 pub extern "C" fn bd_merge(a: &[Finding], b: &[Finding], out: &mut [u32]) -> Numbers
     ensures { Merges (merge_of (flat a.now) (flat b.now) out.old) result out.new }
 {
-    merge_numbers(list_merge::merge(a, b, out))
+    numbers_of(list_merge::merge(a, b, out))
 }
 
 // Reads the attribute `name`, or the text where the name is empty, of the element from `first` to `after`.

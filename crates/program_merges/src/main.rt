@@ -1,12 +1,12 @@
 // Reads blocks of two lists and a room from its standard input, merges each, and writes the answers in the printed form.
 #![tactic(auto)]
 
-ghost use Rattle.std.specs.Prelude.{◌≡◌, ◌+◌, ◌*◌, ◌≤◌, min, length, IfOk};
+ghost use Rattle.std.specs.Prelude.{◌+◌, ◌*◌, ◌≤◌, length};
 ghost use Rattle.list_findings.specs.Findings.{width};
 
-use list_findings::{Finding, Merged};
+use list_findings::Finding;
+use refusals::Refusal;
 use std::io;
-use std::io::Read;
 
 // The records of a list, at most, and its numbers; the numbers of a room, of 64 records.
 const RECORDS: usize = 16;
@@ -18,81 +18,30 @@ const ROOM: usize = 64 * list_findings::WIDTH;
 // The bytes of what is printed of a room: a number takes 21 at most.
 const TEXT: usize = 64 + 21 * ROOM;
 
-// Reads until the room is full or the input ends: how many bytes.
-fn read_full(input: &mut impl Read, room: &mut [u8]) -> io::Result<usize>
-    ensures { IfOk result (λ n. n ≤ length room.new) }
-{
-    let mut done = 0;
-    while done < room.len() {
-        let n = input.read(&mut room[done..])?;
-        if n == 0 {
-            return Ok(done);
+// The number that digits write, if it fits.
+fn number(s: &[u8]) -> Option<u32> {
+    let mut value: u32 = 0;
+    for b in s {
+        if !b.is_ascii_digit() {
+            return None;
         }
-        done += n;
+        value = value.checked_mul(10)?.checked_add(u32::from(*b - b'0'))?;
     }
-    Ok(done)
+    Some(value)
 }
 
-// The place of the first byte b from `at` on, or the length.
-fn end_of(s: &[u8], at: usize, b: u8) -> usize
-    requires { at ≤ length s.now }
-    ensures { (at ≤ result) × (result ≤ length s.now) }
-{
-    let mut i = at;
-    while i < s.len() {
-        if s[i] == b {
-            return i;
-        }
-        i += 1;
-    }
-    i
-}
-
-// The place behind m, unless that is the end.
-fn behind(s: &[u8], m: usize) -> usize
-    requires { m ≤ length s.now }
-    ensures { result ≡ min (m + 1) (length s.now) }
-{
-    if m < s.len() { m + 1 } else { m }
-}
-
-// The number that digits write; 0 where it does not fit.
-fn number(s: &[u8]) -> u32 {
-    let mut value: u64 = 0;
-    let mut i = 0;
-    while i < s.len() {
-        let digit = s[i];
-        if digit < 48 {
-            return 0;
-        }
-        if 57 < digit {
-            return 0;
-        }
-        value = value * 10 + (digit - 48) as u64;
-        if 4294967295 < value {
-            return 0;
-        }
-        i += 1;
-    }
-    value as u32
-}
-
-// The numbers of a line, parted by spaces, from `at` on: written from the front of a list, and how many there are.
-fn numbers(line: &[u8], at: usize, list: &mut [u32]) -> usize
+// The numbers of a line, parted by spaces: written from the front of a list, and how many there are. What is no number that fits is 0.
+fn numbers(line: &[u8], list: &mut [u32]) -> usize
     ensures { result ≤ length list.old }
 {
-    let mut i = at;
-    let mut n = 0;
-    while i < line.len() {
-        let e = end_of(line, i, b' ');
-        if list.len() <= n {
+    let mut words = line.split_inclusive(|b| *b == b' ');
+    for (n, place) in list.iter_mut().enumerate() {
+        let Some(digits) = words.next() else {
             return n;
-        }
-        list[n] = number(&line[i..e]);
-        n += 1;
-        i = behind(line, e);
+        };
+        *place = number(digits.strip_suffix(b" ").unwrap_or(digits)).unwrap_or(0);
     }
-    n
+    list.len()
 }
 
 // Prints a list of so many findings.
@@ -110,28 +59,16 @@ fn print_refusal(rt: &impl Print, number: u32, place: usize, text: &mut [u8]) ->
     rt.write_all(&text[..k])
 }
 
-// The number at a place of a list, and 0 behind its end.
-fn number_at(list: &[u32], k: usize) -> u32 {
-    if k < list.len() { list[k] } else { 0 }
-}
-
 // The records of a list from its front. What is missing of a last record that is not whole is 0, so that its start is not below its end.
 fn records(list: &[u32]) -> [Finding; RECORDS] {
-    let none = Finding {
-        procedure: 0,
-        first: 0,
-        after: 0,
-    };
-    let mut made = [none; RECORDS];
-    let mut i = 0;
-    while i < RECORDS {
-        let k = i * list_findings::WIDTH;
-        made[i] = Finding {
-            procedure: number_at(list, k),
-            first: number_at(list, k + 1),
-            after: number_at(list, k + 2),
+    let mut made = [Finding::NONE; RECORDS];
+    for (record, numbers) in made.iter_mut().zip(list.chunks(list_findings::WIDTH)) {
+        let nth = |k: usize| numbers.get(k).copied().unwrap_or(0);
+        *record = Finding {
+            procedure: nth(0),
+            first: nth(1),
+            after: nth(2),
         };
-        i += 1;
     }
     made
 }
@@ -141,7 +78,7 @@ fn count_of(n: usize) -> usize
     requires { n ≤ 16 * width }
     ensures { result ≤ 16 }
 {
-    (n + 2) / list_findings::WIDTH
+    n.div_ceil(list_findings::WIDTH)
 }
 
 // Merges the first n of some records with the first m of others.
@@ -151,7 +88,7 @@ fn merge_records(
     b: [Finding; RECORDS],
     m: usize,
     out: &mut [u32],
-) -> Merged
+) -> Result<usize, Refusal>
     requires { (n ≤ 16) × (m ≤ 16) }
 {
     list_merge::merge(&a[..n], &b[..m], out)
@@ -166,8 +103,8 @@ fn merge_block(rt: &impl Print, a: &[u32], b: &[u32], out: &mut [u32]) -> io::Re
     let answer = merge_records(records(a), n, records(b), m, out);
     let mut text = [0u8; TEXT];
     match answer {
-        Merged::Findings(count) => print_list(rt, out, count, &mut text),
-        Merged::Refused(number, place) => print_refusal(rt, number, place, &mut text),
+        Ok(count) => print_list(rt, out, count, &mut text),
+        Err(refusal) => print_refusal(rt, refusal.reason.number(), refusal.value, &mut text),
     }
 }
 
@@ -175,50 +112,44 @@ fn merge_block(rt: &impl Print, a: &[u32], b: &[u32], out: &mut [u32]) -> io::Re
 fn room_for(n: u32) -> usize
     ensures { result ≤ 64 * width }
 {
-    if n < 64 {
-        return n as usize * list_findings::WIDTH;
-    }
-    ROOM
+    n.min(64) as usize * list_findings::WIDTH
 }
 
-// The block whose first line starts at i: two lists and a room, a line each.
-fn merge_at(rt: &impl Print, s: &[u8], i: usize) -> io::Result<()>
-    requires { i ≤ length s.now }
-{
+// What stands behind the first n bytes of a line, and nothing where it is shorter.
+fn behind(line: &[u8], n: usize) -> &[u8] {
+    line.get(n..).unwrap_or(&[])
+}
+
+// A block: two lists and a room, a line each.
+fn merge_lines(rt: &impl Print, first: &[u8], second: &[u8], third: &[u8]) -> io::Result<()> {
     let mut a = [0u32; LIST];
     let mut b = [0u32; LIST];
     let mut out = [0u32; ROOM];
     let mut room = [0u32; 1];
-    let e = end_of(s, i, b'\n');
-    let n = numbers(&s[i..e], 2, &mut a);
-    let j = behind(s, e);
-    let f = end_of(s, j, b'\n');
-    let m = numbers(&s[j..f], 2, &mut b);
-    let k = behind(s, f);
-    let g = end_of(s, k, b'\n');
-    numbers(&s[k..g], 5, &mut room);
+    let n = numbers(behind(first, 2), &mut a);
+    let m = numbers(behind(second, 2), &mut b);
+    numbers(behind(third, 5), &mut room);
     let r = room_for(room[0]);
     merge_block(rt, &a[..n], &b[..m], &mut out[..r])
 }
 
-// Whether a block starts at i.
-fn starts(s: &[u8], i: usize) -> bool {
-    text_scan::text_at(s, i, b"a ")
-}
-
+// Each line that begins with `a ` begins a block.
 fn merge_all(rt: &impl Print, s: &[u8]) -> io::Result<()> {
-    let mut i = 0;
-    while i < s.len() {
-        if starts(s, i) {
-            merge_at(rt, s, i)?;
+    let mut rest = s;
+    while !rest.is_empty() {
+        let (first, after) = program_input::cut(rest, b'\n');
+        if first.starts_with(b"a ") {
+            let (second, more) = program_input::cut(after, b'\n');
+            let (third, _) = program_input::cut(more, b'\n');
+            merge_lines(rt, first, second, third)?;
         }
-        i = behind(s, end_of(s, i, b'\n'));
+        rest = after;
     }
     Ok(())
 }
 
 fn main(rt: HostRuntime) -> io::Result<()> {
     let mut space = [0u8; 65536];
-    let n = read_full(&mut rt.stdin(), &mut space)?;
+    let n = program_input::read(&mut rt.stdin(), &mut space)?;
     merge_all(&rt, &space[..n])
 }

@@ -1,50 +1,15 @@
 // Checks documents under two tables files each, merges the two lists, and prints the answer, which is that of the check under the joined file.
 #![tactic(auto)]
 
-ghost use Rattle.std.specs.Prelude.{◌+◌, ◌*◌, ◌≤◌, length, IfOk};
+ghost use Rattle.std.specs.Prelude.{◌≤◌, length, IfOk};
 
-use judge_findings::Answer;
 use list_findings::{Finding, WIDTH};
-use program_answer::Got;
+use refusals::Refusal;
 use std::rt::Files;
 use std::{fs, io};
 use xml_reader::Reader;
 
-// Prints a list of so many findings.
-fn print_list(rt: &impl Print, list: &[u32], n: usize, out: &mut [u8]) -> io::Result<()>
-    requires { 64 + 21 * length list.now ≤ length out.old }
-{
-    let k = program_texts::put_list(out, list, n);
-    rt.write_all(&out[..k])
-}
-
-fn print_refusal(rt: &impl Print, number: u32, place: usize, out: &mut [u8]) -> io::Result<()>
-    requires { 64 ≤ length out.old }
-{
-    let k = program_texts::put_refusal(out, number, place);
-    rt.write_all(&out[..k])
-}
-
-fn print(rt: &impl Print, answer: Answer, list: &[u32], out: &mut [u8]) -> io::Result<()>
-    requires { 64 + 21 * length list.now ≤ length out.old }
-{
-    match answer {
-        Answer::Findings(n) => print_list(rt, list, n, out),
-        Answer::Refused(number, place) => print_refusal(rt, number, place, out),
-    }
-}
-
-// Room for 256 findings under each file.
-fn no_records() -> [Finding; 512] {
-    let none = Finding {
-        procedure: 0,
-        first: 0,
-        after: 0,
-    };
-    [none; 512]
-}
-
-// Checks under both files and merges, in the rooms that are lent and one for records.
+// Checks under both files and merges, in the rooms that are lent and one for the records of both: 256 findings under each file.
 fn check_both(
     document: &[u8],
     one: &[u8],
@@ -53,8 +18,8 @@ fn check_both(
     elements: &mut [u32],
     list: &mut [u32],
     merged: &mut [u32],
-) -> Answer {
-    let mut records = no_records();
+) -> Result<usize, Refusal> {
+    let mut records = [Finding::NONE; 512];
     judge_both::check_both(
         document,
         one,
@@ -83,7 +48,8 @@ fn judge(rt: &impl Print, document: &[u8], one: &[u8], other: &[u8]) -> io::Resu
         &mut list,
         &mut merged,
     );
-    print(rt, answer, &merged, &mut out)
+    let n = program_answer::print(answer, &merged, &mut out);
+    rt.write_all(&out[..n])
 }
 
 // How many bytes of a file were read into the room; none where it cannot be read, which is told.
@@ -98,8 +64,8 @@ fn read(rt: &(impl Files + Eprint), name: &str, room: &mut [u8]) -> io::Result<u
         }
     };
     match program_answer::read(&mut file, room) {
-        Got::Bytes(n) => Ok(n),
-        Got::Failed(e) => {
+        Ok(n) => Ok(n),
+        Err(e) => {
             eprintln!(rt; "pairs: cannot read a file: {e}")?;
             Ok(0)
         }

@@ -4,7 +4,6 @@
 ghost use Rattle.std.specs.Prelude.{◌+◌, ◌*◌, ◌≤◌, length};
 
 use list_findings::WIDTH;
-use program_answer::Got;
 use std::rt::Files;
 use std::{fs, io};
 
@@ -38,10 +37,9 @@ fn read_document(
     tables: &[u8],
     room: &mut [u8],
 ) -> io::Result<()> {
-    let got = program_answer::read(&mut rt.reader(), room);
-    match got {
-        Got::Bytes(n) => judge(rt, &room[..n], tables),
-        Got::Failed(e) => eprintln!(rt; "panel: cannot read the document: {e}"),
+    match program_answer::read(&mut rt.reader(), room) {
+        Ok(n) => judge(rt, &room[..n], tables),
+        Err(e) => eprintln!(rt; "panel: cannot read the document: {e}"),
     }
 }
 
@@ -59,8 +57,8 @@ fn read_tables(rt: &(impl Print + Eprint + Input + Files), room: &mut [u8]) -> i
     let got = program_answer::read(&mut file, room);
     drop(file);
     match got {
-        Got::Bytes(n) => with_tables(rt, &room[..n]),
-        Got::Failed(e) => eprintln!(rt; "panel: cannot read tables.txt: {e}"),
+        Ok(n) => with_tables(rt, &room[..n]),
+        Err(e) => eprintln!(rt; "panel: cannot read tables.txt: {e}"),
     }
 }
 

@@ -1,4 +1,3 @@
-pub mod Powers
 pub mod Puts
 pub mod Decimal
 pub mod Decided

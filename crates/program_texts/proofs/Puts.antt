@@ -2,13 +2,14 @@
 -- Assumes nothing.
 use mathlib.Core.Path.{◌≡◌, refl, sym, ◌∙◌, ap, subst}
 use mathlib.Core.Bool.{Bool, true, false}
-use mathlib.Core.List.{List, [], ◌∷◌, ◌++◌, append_assoc, append-nil}
+use mathlib.Core.List.{List, [], ◌++◌, append_assoc, append-nil}
 use Prim.Native.Nat.{ℕ, zero, suc, ◌+◌, ◌-◌, ◌*◌, ◌^◌, ◌<◌, ◌≤◌}
-use native.Mathlib.Numerals.{add-one}
 use native.Mathlib.Nat.{min-le_right}
 use native.Mathlib.Omega.{arith}
-use lib.ListN.{length, take, drop, get_or, set, length-take, length-append}
-use lib.Seq.{drop-drop, drop-set-lt, take-suc, take-suc-set, take-length, length-take-le}
+use lib.ListN.{length, take, drop, length-take, length-drop, length-append}
+use borrow.Rule.Slice.PartMut.{put_mid, same_len_mid}
+use Rattle.std.proofs.lemmas.Slice.{take-put_mid, drop-put_mid}
+use lib.Seq.{drop-drop, length-take-le}
 use Rattle.text_scan.specs.Bytes.{text}
 use lib.Dec.{leb}
 use Rattle.list_findings.specs.declared.Finding.{Finding}
@@ -23,30 +24,18 @@ use Rattle.program_texts.specs.Texts.{Put, finding_line, finding_lines, count_te
 further : (a b : List ℕ) (j m k : ℕ) → k ≡ j + m → drop j b ≡ drop j a → drop k b ≡ drop k a
 further a b j m k e h = rw e (sym (drop-drop m j b) ∙ ap (drop m) h ∙ drop-drop m j a)
 
--- the first i bytes of a text stand behind the front, and the rest is as it was
-unfoldable pub PutSome : List ℕ → ℕ → List ℕ → ℕ → List ℕ → Type 0
-PutSome old at t i new = (take (at + i) new ≡ take at old ++ take i t) × (drop (at + i) new ≡ drop (at + i) old)
-
-module _ (old t new : List ℕ) (at : ℕ) where
-  pub put_none : old ≡ new → PutSome old at t 0 new
-  unfolding PutSome
-  put_none e =
-      let z : at + 0 ≡ at = omega arith in
-      (rw (← e, z) (sym (append-nil (take at old))), rw e)
-
-  pub put_more : (i : ℕ) → PutSome old at t i new → i < length t → at + i < length new → PutSome old at t (i + 1) (set new (at + i) (get_or t i 0))
-  unfolding PutSome
-  put_more i e h g =
-      let n : at + (i + 1) ≡ suc (at + i) = omega arith in (
-        rw (n, add-one, take-suc-set new (at + i) (get_or t i 0) g, e.0, take-suc t i 0 h) (append_assoc (take at old) (take i t) (get_or t i 0 ∷ [])),
-        drop-set-lt (at + (i + 1)) new (at + i) (get_or t i 0) (omega arith) ∙ further old new (at + i) 1 (at + (i + 1)) (omega arith) e.1,
-      )
-
-  pub put_all : (i : ℕ) → PutSome old at t i new → i ≤ length t → length t ≤ i → length new ≡ length old → Put old at t (at + i) new
-  unfolding PutSome
-  put_all i e h g l =
-      let q : i ≡ length t = omega arith in
-      record { ends = rw q; stands = e.0 ∙ rw (q, take-length t); rest = e.1; long = l }
+-- a text in the place of as many bytes of a room
+pub part_put : (a t b : List ℕ) (at : ℕ) → at + length t ≤ length a → b ≡ t → Put a at t (at + length t) (put_mid at (at + length t - at) a b)
+part_put a t b at h e =
+    let n : at + length t - at ≡ length t = omega arith in
+    let m : length t ≡ length (take (length t) (drop at a)) = omega (arith, length-take-le (length t) (drop at a) (omega (arith, length-drop at a))) in
+    rw (e, n)
+    (record {
+      ends = refl;
+      stands = take-put_mid at (length t) a t (at + length t) refl (omega arith);
+      rest = drop-put_mid at (length t) a t (at + length t) (omega arith) (omega arith) refl;
+      long = same_len_mid at (length t) a t m;
+    })
 
 -- a text behind a text is one text
 pub put_both : (a b c s t : List ℕ) (i j k : ℕ) → Put a i s j b → Put b j t k c → Put a i (s ++ t) k c
@@ -85,12 +74,12 @@ line_put a b c d i j k r x p q s = put_both a c d _ _ i k r (put_both a b c _ _ 
 unfoldable pub Told : List ℕ → ℕ → List ℕ → ℕ → List ℕ → ℕ → ℕ → ℕ → Type 0
 Told old at list n out next k left = (take next out ++ finding_lines list k left ≡ take at old ++ finding_lines list 0 n) × (drop next out ≡ drop next old)
 
-pub told_none : (a l : List ℕ) (i n : ℕ) → Told a i l n a i 0 n
+pub told_none : (a l : List ℕ) (i n : ℕ) → Told a i l n a i 0 (n - 0)
 unfolding Told
-told_none a l i n = (refl, refl)
+told_none a l i n = let z : n - 0 ≡ n = omega arith in rw z (refl, refl)
 
 module _ (a l b : List ℕ) (i n j k m : ℕ) (e : Told a i l n b j k m) where
-  pub told_more : (t : Bool) → t ≡ leb width (length l - k) → t ≡ true → 0 < m → (x : Finding) → x ≡ record_at l k → (c : List ℕ) (r : ℕ) → Put b j (finding_line x) r c → Told a i l n c r (k + width) (m - 1)
+  told_more : (t : Bool) → t ≡ leb width (length l - k) → t ≡ true → 0 < m → (x : Finding) → x ≡ record_at l k → (c : List ℕ) (r : ℕ) → Put b j (finding_line x) r c → Told a i l n c r (k + width) (m - 1)
   unfolding Told finding_lines
   told_more t u v h x w c r p = go m e h
     where
@@ -112,7 +101,7 @@ module _ (a l b : List ℕ) (i n j k m : ℕ) (e : Told a i l n b j k m) where
         long = s;
       }
 
-  pub told_end : m ≤ 0 → i + 21 * length l ≤ length a → j + 21 * (length l - k) ≤ length b → length b ≡ length a → Put a i (finding_lines l 0 n) j b
+  told_end : m ≤ 0 → i + 21 * length l ≤ length a → j + 21 * (length l - k) ≤ length b → length b ≡ length a → Put a i (finding_lines l 0 n) j b
   unfolding finding_lines
   told_end h x y = told_all (none m h) (omega (arith, x)) (omega (arith, y))
     where
@@ -128,13 +117,31 @@ module _ (a l b : List ℕ) (i n j k m : ℕ) (e : Told a i l n b j k m) where
       none zero = refl
       none (suc q) = rw (← u, v)
 
+-- the record with number q
+module _ (a l b : List ℕ) (i n j q : ℕ) (e : Told a i l n b j (q * width) (n - q)) where
+  pub told_next : (t : Bool) → t ≡ leb width (length l - q * width) → t ≡ true → q < n → (x : Finding) → x ≡ record_at l (q * width) → (c : List ℕ) (r : ℕ) → Put b j (finding_line x) r c → Told a i l n c r ((q + 1) * width) (n - (q + 1))
+  told_next t u v h x w c r p =
+      let z : (q + 1) * width ≡ q * width + width = omega arith in
+      let y : n - (q + 1) ≡ n - q - 1 = omega arith in
+      rw (z, y) (told_more a l b i n j (q * width) (n - q) e t u v (omega arith) x w c r p)
+
+  pub told_over : n ≤ q → i + 21 * length l ≤ length a → j + 21 * (length l - q * width) ≤ length b → length b ≡ length a → Put a i (finding_lines l 0 n) j b
+  told_over h = told_end a l b i n j (q * width) (n - q) e (omega arith)
+
 -- a record of three numbers has a line of 63 bytes at most
 module _ (l b : List ℕ) (j k : ℕ) (t : Bool) (u : t ≡ leb width (length l - k)) (v : t ≡ true) (h : j + 21 * (length l - k) ≤ length b) where
   pub line_room : j + 21 * width ≤ length b
   line_room = omega (arith, h, there l k t u v)
 
-  pub room_left : (c s : List ℕ) (r : ℕ) → Put b j s r c → r ≤ j + 21 * width → r + 21 * (length l - (k + width)) ≤ length c
+  room_left : (c s : List ℕ) (r : ℕ) → Put b j s r c → r ≤ j + 21 * width → r + 21 * (length l - (k + width)) ≤ length c
   room_left c s r p g = omega (arith, h, there l k t u v, p.long, g)
+
+module _ (l b : List ℕ) (j q : ℕ) (t : Bool) (u : t ≡ leb width (length l - q * width)) (v : t ≡ true) where
+  pub next_there : (q + 1) * width ≤ length l
+  next_there = omega (arith, there l (q * width) t u v)
+
+  pub next_room : j + 21 * (length l - q * width) ≤ length b → (c s : List ℕ) (r : ℕ) → Put b j s r c → r ≤ j + 21 * width → r + 21 * (length l - (q + 1) * width) ≤ length c
+  next_room h c s r p g = let z : (q + 1) * width ≡ q * width + width = omega arith in rw z (room_left l b j (q * width) t u v h c s r p g)
 
 pub long_still : (a b c s : List ℕ) (j r : ℕ) → length b ≡ length a → Put b j s r c → length c ≡ length a
 long_still a b c s j r e p = p.long ∙ e

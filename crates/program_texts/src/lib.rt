@@ -16,12 +16,9 @@ pub fn put(out: &mut [u8], at: usize, text: &[u8]) -> usize
     requires { at + length text.now ≤ length out.old }
     ensures { Put out.old at text.now result out.new }
 {
-    let mut i = 0;
-    while i < text.len() {
-        out[at + i] = text[i];
-        i += 1;
-    }
-    at + i
+    let end = at + text.len();
+    out[at..end].copy_from_slice(text);
+    end
 }
 
 // Puts a number in decimal, which takes 20 bytes at most, and a text behind it.
@@ -51,16 +48,12 @@ fn put_findings(out: &mut [u8], at: usize, list: &[u32], n: usize) -> usize
     ensures { Put out.old at (finding_lines list.now 0 n) result out.new }
 {
     let mut next = at;
-    let mut k = 0;
-    let mut left = n;
-    while 0 < left {
-        if list_findings::has_record(list, k) {
-            next = put_finding(out, next, list_findings::record_at(list, k));
-            k += list_findings::WIDTH;
-            left -= 1;
-            continue;
+    for i in 0..n {
+        let k = i * list_findings::WIDTH;
+        if !list_findings::has_record(list, k) {
+            return next;
         }
-        return next;
+        next = put_finding(out, next, list_findings::record_at(list, k));
     }
     next
 }

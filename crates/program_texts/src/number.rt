@@ -1,4 +1,4 @@
-// The digits of a number in decimal.
+// The digits of a number in decimal. (Of what `write!` leaves in a lent slice std promises no bytes, and a String needs a heap.)
 ghost use Rattle.std.specs.Prelude.{◌≡◌, ◌≤◌, length, take};
 ghost use Rattle.program_texts.specs.Digits.{last_digits, IsDigitCount};
 
@@ -17,13 +17,7 @@ pub(crate) fn put_digits(n: u64, out: &mut [u8; 20]) -> usize
 fn digit_count(n: u64) -> usize
     ensures { IsDigitCount n result }
 {
-    let mut k = 1;
-    let mut rest = n / 10;
-    while 0 < rest {
-        rest /= 10;
-        k += 1;
-    }
-    k
+    n.checked_ilog10().map_or(1, |k| k as usize + 1)
 }
 
 // Puts the last k digits of a number from the front of a room.
@@ -31,10 +25,8 @@ fn put_last(n: u64, k: usize, out: &mut [u8])
     requires { k ≤ length out.old }
     ensures { take k out.new ≡ last_digits k n }
 {
-    let mut i = k;
     let mut rest = n;
-    while 0 < i {
-        i -= 1;
+    for i in (0..k).rev() {
         out[i] = b'0' + (rest % 10) as u8;
         rest /= 10;
     }

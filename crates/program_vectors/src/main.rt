@@ -3,15 +3,21 @@
 // and the counts of each list.
 #![tactic(auto)]
 
-ghost use Rattle.std.specs.Prelude.{◌+◌, ◌*◌, ◌/◌, ◌≤◌, ◌<◌, ◌≡◌, length};
+ghost use Rattle.std.specs.Prelude.{◌+◌, ◌*◌, ◌/◌, ◌≤◌, ◌<◌, ◌≡◌, length, IfOk};
 ghost use Rattle.program_vectors.specs.Counts.{IsPrefixLen};
-ghost use Rattle.program_answer.specs.Small.{Within};
 
 use list_findings::WIDTH;
-use program_answer::Got;
 use std::io::ErrorKind;
 use std::rt::Files;
 use std::{fs, io, str};
+
+// A block of a list: the name of its files, the text that is expected, and whether that is the text of the element table.
+#[derive(Clone, Copy)]
+struct Block<'a> {
+    name: &'a [u8],
+    expected: &'a [u8],
+    rows: bool,
+}
 
 fn say(rt: &impl Print, text: &[u8]) -> io::Result<()> {
     rt.write_all(text)
@@ -28,30 +34,21 @@ fn fail(rt: &impl Eprint, name: &[u8], e: io::Error) -> io::Result<()> {
 // The line of s at i, without its line feed; nothing past the end.
 fn say_line(rt: &impl Print, s: &[u8], i: usize) -> io::Result<()> {
     let e = table_lines::line_end(s, i);
-    if e < i {
-        return Ok(());
+    match s.get(i..e) {
+        Some(line) => say(rt, line),
+        None => Ok(()),
     }
-    if s.len() < e {
-        return Ok(());
-    }
-    say(rt, &s[i..e])
 }
 
 // The place of the first line in which two texts differ.
 fn differing(a: &[u8], b: &[u8]) -> usize {
     let mut line = 0;
-    let mut i = 0;
-    while i < a.len() {
-        if b.len() <= i {
+    for (i, (x, y)) in a.iter().zip(b).enumerate() {
+        if x != y {
             return line;
         }
-        let x = a[i];
-        if x != b[i] {
-            return line;
-        }
-        i += 1;
-        if x == b'\n' {
-            line = i;
+        if *x == b'\n' {
+            line = i + 1;
         }
     }
     line
@@ -76,18 +73,12 @@ fn compare(rt: &impl Print, name: &[u8], text: &[u8], expected: &[u8]) -> io::Re
 fn row_count(rows: &[u32]) -> usize
     ensures { 4 * result ≤ length rows.now }
 {
-    let mut k = 0;
-    while k < rows.len() / 4 {
-        if rows[4 * k + 3] == 0 {
+    for (k, row) in rows.chunks_exact(4).enumerate() {
+        if row[3] == 0 {
             return k;
         }
-        k += 1;
     }
-    k
-}
-
-fn wide(x: u32) -> u64 {
-    x as u64
+    rows.len() / 4
 }
 
 // Puts the four numbers of a row.
@@ -95,10 +86,10 @@ fn put_row(rows: &[u32], k: usize, out: &mut [u8], at: usize) -> usize
     requires { (4 * k + 4 ≤ length rows.now) × (at + 84 ≤ length out.old) }
     ensures { (result ≤ at + 84) × (length out.new ≡ length out.old) }
 {
-    let parent = program_texts::put_number(out, at, wide(rows[4 * k]), b" ");
-    let first = program_texts::put_number(out, parent, wide(rows[4 * k + 1]), b" ");
-    let after = program_texts::put_number(out, first, wide(rows[4 * k + 2]), b" ");
-    program_texts::put_number(out, after, wide(rows[4 * k + 3]), b"\n")
+    let parent = program_texts::put_number(out, at, rows[4 * k] as u64, b" ");
+    let first = program_texts::put_number(out, parent, rows[4 * k + 1] as u64, b" ");
+    let after = program_texts::put_number(out, first, rows[4 * k + 2] as u64, b" ");
+    program_texts::put_number(out, after, rows[4 * k + 3] as u64, b"\n")
 }
 
 // Puts the first rows of a table.
@@ -107,10 +98,8 @@ fn put_rows(rows: &[u32], count: usize, out: &mut [u8], at: usize) -> usize
     ensures { IsPrefixLen result out.new }
 {
     let mut next = at;
-    let mut k = 0;
-    while k < count {
+    for k in 0..count {
         next = put_row(rows, k, out, next);
-        k += 1;
     }
     next
 }
@@ -123,10 +112,8 @@ fn print_rows(rows: &[u32], out: &mut [u8]) -> usize
     let count = row_count(rows);
     let at = program_texts::put(out, 0, b"elements ");
     let next = program_texts::put_number(out, at, count as u64, b"\n");
-    if 12 < count {
-        return put_rows(rows, 0, out, next);
-    }
-    put_rows(rows, count, out, next)
+    let shown = if count <= 12 { count } else { 0 };
+    put_rows(rows, shown, out, next)
 }
 
 // The text of an answer, or of the element table that the check filled.
@@ -142,48 +129,39 @@ fn answer(
     ensures { IsPrefixLen result out.new }
 {
     let n = program_answer::run(document, tables, elements, list, out);
-    if rows {
-        return print_rows(elements, out);
-    }
-    n
+    if rows { print_rows(elements, out) } else { n }
 }
 
 fn hold_answer(
     rt: &impl Print,
-    name: &[u8],
+    block: Block<'_>,
     document: &[u8],
     tables: &[u8],
-    rows: bool,
-    expected: &[u8],
     elements: &mut [u32],
     list: &mut [u32],
     out: &mut [u8],
 ) -> io::Result<bool>
     requires { (64 + 21 * length list.old ≤ length out.old) × (2048 ≤ length out.old) }
 {
-    let n = answer(document, tables, rows, elements, list, out);
-    compare(rt, name, &out[..n], expected)
+    let n = answer(document, tables, block.rows, elements, list, out);
+    compare(rt, block.name, &out[..n], block.expected)
 }
 
 // The rooms are those of the small program.
 fn hold_pair(
     rt: &impl Print,
-    name: &[u8],
+    block: Block<'_>,
     document: &[u8],
     tables: &[u8],
-    rows: bool,
-    expected: &[u8],
 ) -> io::Result<bool> {
     let mut elements = [0u32; 4 * program_answer::ELEMENTS];
     let mut list = [0u32; WIDTH * program_answer::FINDINGS];
     let mut out = [0u8; program_answer::TEXT];
     hold_answer(
         rt,
-        name,
+        block,
         document,
         tables,
-        rows,
-        expected,
         &mut elements,
         &mut list,
         &mut out,
@@ -214,50 +192,41 @@ fn open_short<R: Files>(rt: &R, name: &[u8], ending: &[u8]) -> io::Result<R::Fil
     open(rt, name, ending, &mut path)
 }
 
-fn read_file(rt: &impl Files, name: &[u8], ending: &[u8], room: &mut [u8]) -> Got
-    ensures { Within result room.new }
+fn read_file(rt: &impl Files, name: &[u8], ending: &[u8], room: &mut [u8]) -> io::Result<usize>
+    ensures { IfOk result (λ n. n ≤ length room.new) }
 {
-    match open_short(rt, name, ending) {
-        Ok(mut file) => program_answer::read(&mut file, room),
-        Err(e) => Got::Failed(e),
-    }
+    let mut file = open_short(rt, name, ending)?;
+    program_answer::read(&mut file, room)
 }
 
 fn hold_files(
     rt: &(impl Files + Print + Eprint),
-    name: &[u8],
-    rows: bool,
-    expected: &[u8],
+    block: Block<'_>,
     document: &mut [u8],
     tables: &mut [u8],
 ) -> io::Result<bool> {
-    let n = match read_file(rt, name, b".xml", document) {
-        Got::Bytes(n) => n,
-        Got::Failed(e) => {
-            fail(rt, name, e)?;
+    let n = match read_file(rt, block.name, b".xml", document) {
+        Ok(n) => n,
+        Err(e) => {
+            fail(rt, block.name, e)?;
             return Ok(false);
         }
     };
-    let m = match read_file(rt, name, b".tables", tables) {
-        Got::Bytes(m) => m,
-        Got::Failed(e) => {
-            fail(rt, name, e)?;
+    let m = match read_file(rt, block.name, b".tables", tables) {
+        Ok(m) => m,
+        Err(e) => {
+            fail(rt, block.name, e)?;
             return Ok(false);
         }
     };
-    hold_pair(rt, name, &document[..n], &tables[..m], rows, expected)
+    hold_pair(rt, block, &document[..n], &tables[..m])
 }
 
 // One byte more than the limit is read, so that a longer file is seen.
-fn hold(
-    rt: &(impl Files + Print + Eprint),
-    name: &[u8],
-    rows: bool,
-    expected: &[u8],
-) -> io::Result<bool> {
+fn hold(rt: &(impl Files + Print + Eprint), block: Block<'_>) -> io::Result<bool> {
     let mut document = [0u8; program_answer::LIMIT + 1];
     let mut tables = [0u8; program_answer::LIMIT + 1];
-    hold_files(rt, name, rows, expected, &mut document, &mut tables)
+    hold_files(rt, block, &mut document, &mut tables)
 }
 
 // A block that has no name, or no line behind its name, is none that could be held to.
@@ -267,16 +236,17 @@ fn say_no_block(rt: &impl Print) -> io::Result<bool> {
 }
 
 // Whether the answer is the one of a block: its first line and the text behind it.
-fn hold_block(rt: &(impl Files + Print + Eprint), block: &[u8], rows: bool) -> io::Result<bool> {
-    let e = table_lines::line_end(block, 0);
-    if e < 3 {
+fn hold_block(rt: &(impl Files + Print + Eprint), s: &[u8], rows: bool) -> io::Result<bool> {
+    let e = table_lines::line_end(s, 0);
+    if e < 3 || s.len() <= e {
         return say_no_block(rt);
     }
-    if block.len() <= e {
-        return say_no_block(rt);
-    }
-    let behind = e + 1;
-    hold(rt, &block[3..e], rows, &block[behind..])
+    let block = Block {
+        name: &s[3..e],
+        expected: &s[e + 1..],
+        rows,
+    };
+    hold(rt, block)
 }
 
 // The place of the first block behind `at`, or the length.
@@ -284,14 +254,12 @@ fn next_block(s: &[u8], at: usize) -> usize
     requires { at < length s.now }
     ensures { (at < result) × (result ≤ length s.now) }
 {
-    let mut i = at;
-    while i < s.len() {
+    for i in at..s.len() {
         if text_scan::text_at(s, i, b"\n== ") {
             return i + 1;
         }
-        i += 1;
     }
-    i
+    s.len()
 }
 
 fn say_count(rt: &impl Print, n: u64, what: &[u8]) -> io::Result<()> {
@@ -313,10 +281,9 @@ fn hold_blocks(
         let e = next_block(s, i);
         if hold_block(rt, &s[i..e], rows)? {
             held += 1;
-            i = e;
-            continue;
+        } else {
+            differ += 1;
         }
-        differ += 1;
         i = e;
     }
     say_count(rt, held, what)?;
@@ -331,8 +298,8 @@ fn hold_list(
     room: &mut [u8],
 ) -> io::Result<()> {
     match read_file(rt, name, b".txt", room) {
-        Got::Bytes(n) => hold_blocks(rt, &room[..n], rows, what),
-        Got::Failed(e) => fail(rt, name, e),
+        Ok(n) => hold_blocks(rt, &room[..n], rows, what),
+        Err(e) => fail(rt, name, e),
     }
 }
 

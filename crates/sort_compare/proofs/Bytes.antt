@@ -14,10 +14,12 @@ use Rattle.text_scan.proofs.Tests.{never}
 use Rattle.text_scan.proofs.Within.{inside, holds_there, drop_here}
 use Rattle.text_scan.proofs.Lists.{run_least}
 use Rattle.xml_names.specs.Names.{name_at, is_name_start, is_name_char, name_end}
-use Rattle.sort_compare.specs.declared.Order.TheVariants.{Less, Same, More}
+use Rattle.std.specs.declared.cmp.Ordering.TheVariants.{Equal}
+use Rattle.std.specs.declared.cmp.Ordering.{Ordering}
+use Rattle.std.specs.Ordering.{nat_cmp}
 use Rattle.sort_compare.specs.Order.{order}
 use Rattle.sort_compare.specs.Units.{byte_in}
-use Rattle.sort_compare.proofs.Ordering.{begun, begun_same, begun_goes, begun_less, begun_more}
+use Rattle.sort_compare.proofs.Ordering.{begun, begun_same, begun_goes, begun_less, begun_more, told}
 
 -- ---- the byte, by the tests of the code
 pub byte_past : (p : ℕ → Bool) → p 0 ≡ false → (s : List ℕ) (i : ℕ) → length s ≤ i → 0 ≡ byte_in p s i
@@ -91,7 +93,7 @@ unfolding Compares
 compare_starts s a b x y e f = rw (name_begun s a x e, name_begun s b y f)
 
 module _ (s : List ℕ) (a b i j x y : ℕ) (l : Compares s a b i j x y) where
-  pub compare_same : x ≡ y → x ≡ 0 → Same ≡ order (name_at s a) (name_at s b)
+  pub compare_same : x ≡ y → x ≡ 0 → Equal ≡ order (name_at s a) (name_at s b)
   unfolding Compares
   compare_same e z = sym (l ∙ begun_same x y (rest s (i + 1)) (rest s (j + 1)) e z)
 
@@ -100,13 +102,10 @@ module _ (s : List ℕ) (a b i j x y : ℕ) (l : Compares s a b i j x y) where
   compare_goes e z x' y' f g =
       l ∙ begun_goes x y (rest s (i + 1)) (rest s (j + 1)) e z ∙ rw (rest_begun s (i + 1) x' f, rest_begun s (j + 1) y' g)
 
-  pub compare_less : x < y → Less ≡ order (name_at s a) (name_at s b)
+  pub compare_told : (x ≡ y → ⊥) → (r : Ordering) → r ≡ nat_cmp x y → r ≡ order (name_at s a) (name_at s b)
   unfolding Compares
-  compare_less h = sym (l ∙ begun_less x y (rest s (i + 1)) (rest s (j + 1)) h)
-
-  pub compare_more : (x ≡ y → ⊥) → y ≤ x → More ≡ order (name_at s a) (name_at s b)
-  unfolding Compares
-  compare_more e h = sym (l ∙ begun_more x y (rest s (i + 1)) (rest s (j + 1)) (omega arith))
+  compare_told z r e =
+      told x y r (order (name_at s a) (name_at s b)) e (λ h. sym (l ∙ begun_less x y (rest s (i + 1)) (rest s (j + 1)) h)) (λ h. absurd (z h)) (λ h. sym (l ∙ begun_more x y (rest s (i + 1)) (rest s (j + 1)) h))
 
 -- a byte other than 0 leaves room for the next position
 module _ (s : List ℕ) (i x : ℕ) (l : x ≤ get_or s i 0) (z : x ≡ 0 → ⊥) where

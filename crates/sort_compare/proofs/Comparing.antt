@@ -11,18 +11,20 @@ use lib.ListN.{length, drop, get_or}
 use Rattle.text_scan.proofs.Tests.{or_left, or_right}
 use Rattle.text_scan.proofs.Within.{drop_here}
 use Rattle.table_lines.specs.Lines.{is_tab}
-use Rattle.sort_compare.specs.declared.Order.{Order}
-use Rattle.sort_compare.specs.declared.Order.TheVariants.{Less, Same, More}
+use Rattle.std.specs.declared.cmp.Ordering.{Ordering}
+use Rattle.std.specs.declared.cmp.Ordering.TheVariants.{Less, Equal, Greater}
 use Rattle.sort_compare.specs.declared.By.{By}
-use Rattle.sort_compare.specs.Order.{order, then_by}
+use Rattle.std.specs.Ordering.{ordering_then}
+use Rattle.sort_compare.specs.Order.{order}
 use Rattle.sort_compare.specs.Fields.{is_feed, ends, front_field, after_field, shown, next_place, skip_place, fields_from, coded, row_key}
 use Rattle.sort_compare.specs.Keys.{key_at}
+use Rattle.std.specs.Ordering.{nat_cmp}
 use Rattle.sort_compare.specs.Units.{unit_of}
-use Rattle.sort_compare.proofs.Ordering.{compared, by_less, by_more, by_rest}
+use Rattle.sort_compare.proofs.Ordering.{compared, told, by_less, by_more, by_rest}
 use Rattle.sort_compare.proofs.Parts.{shown_byte, shown_nil, shown_cons, part_goes, unit_inside, unit_goes, unit_is, unit_none}
 use Rattle.sort_compare.proofs.Skipping.{drop_skip}
 
-pub order_coded : (f g : List ℕ) (fs gs : List (List ℕ)) → order (coded (f ∷ fs)) (coded (g ∷ gs)) ≡ then_by (order f g) (order (coded fs) (coded gs))
+pub order_coded : (f g : List ℕ) (fs gs : List (List ℕ)) → order (coded (f ∷ fs)) (coded (g ∷ gs)) ≡ ordering_then (order f g) (order (coded fs) (coded gs))
 unfolding order coded
 order_coded [] [] fs gs = by_rest 0 0 (coded fs) (coded gs) refl
 order_coded [] (y ∷ ys) fs gs = by_less 0 (suc y) (coded fs) (coded (ys ∷ gs)) (omega arith)
@@ -78,10 +80,10 @@ unfolding RowsFrom
 rows_start s a b fields folded = refl
 
 module _ (s : List ℕ) (a b fields folded i j left : ℕ) (l : RowsFrom s a b fields folded i j left) where
-  abbrev asked : Order
+  abbrev asked : Ordering
   asked = order (row_key fields folded (drop a s)) (row_key fields folded (drop b s))
 
-  pub rows_same : left ≤ 0 → Same ≡ asked
+  pub rows_same : left ≤ 0 → Equal ≡ asked
   unfolding RowsFrom order row_key fields_from coded
   rows_same h =
       let z : left ≡ 0 = omega arith in
@@ -108,12 +110,15 @@ module _ (s : List ℕ) (a b fields folded i j left : ℕ) (l : RowsFrom s a b f
       pub row_less : u < w → Less ≡ asked
       row_less g = sym (from ∙ rw (key_first s (left - 1) folded i, key_first s (left - 1) folded j, ← more, ← eu, ← ew) (by_less u w _ _ g))
 
-      pub row_more : w < u → More ≡ asked
+      pub row_more : w < u → Greater ≡ asked
       row_more g = sym (from ∙ rw (key_first s (left - 1) folded i, key_first s (left - 1) folded j, ← more, ← eu, ← ew) (by_more u w _ _ g))
 
-      module _ (p : w ≤ u) (q : u ≤ w) where
+      pub row_told : (u ≡ w → ⊥) → (r : Ordering) → r ≡ nat_cmp u w → r ≡ asked
+      row_told z r e = told u w r asked e row_less (λ h. absurd (z h)) row_more
+
+      module _ (p : u ≡ w) where
         same : w ≡ u
-        same = omega arith
+        same = sym p
 
         pub rows_inside : (u ≡ 0 → ⊥) → (i < length s) × (j < length s)
         rows_inside z = (unit_inside true s i (eqb left folded) u eu z, unit_inside true s j (eqb left folded) w ew (λ e. z (sym same ∙ e)))
@@ -136,5 +141,5 @@ module _ (s : List ℕ) (a b fields folded i j left : ℕ) (l : RowsFrom s a b f
             (by_rest 0 0 (row_key (left - 1) folded (drop c s)) (row_key (left - 1) folded (drop d s)) refl))
 
 -- ---- two positions
-pub compared_by : (by k : By) → by ≡ k → (s : List ℕ) (a b : ℕ) (r : Order) → r ≡ order (key_at k s a) (key_at k s b) → r ≡ order (key_at by s a) (key_at by s b)
+pub compared_by : (by k : By) → by ≡ k → (s : List ℕ) (a b : ℕ) (r : Ordering) → r ≡ order (key_at k s a) (key_at k s b) → r ≡ order (key_at by s a) (key_at by s b)
 compared_by by k e s a b r f = rw e f

@@ -8,35 +8,38 @@ use native.Mathlib.Omega.{arith}
 use borrow.Author.Tests.{lt-ltb, le-ltb, ltb-true, ltb-false}
 use lib.Dec.{ltb}
 use Rattle.text_scan.proofs.Tests.{never}
-use Rattle.sort_compare.specs.declared.Order.{Order}
-use Rattle.sort_compare.specs.declared.Order.TheVariants.{Less, Same, More}
-use Rattle.sort_compare.specs.Order.{order, in_order}
+use Rattle.std.specs.declared.cmp.Ordering.{Ordering}
+use Rattle.std.specs.declared.cmp.Ordering.TheVariants.{Less, Equal, Greater}
+use Rattle.std.specs.Ordering.{nat_cmp}
+use Rattle.std.specs.Cmp.{nat_cmp_is}
+use Rattle.std.specs.Ordering.{is_le}
+use Rattle.sort_compare.specs.Order.{order}
 
 -- ---- the orders differ
-abbrev is_less : Order → Bool
+abbrev is_less : Ordering → Bool
 is_less Less = true
-is_less Same = false
-is_less More = false
+is_less Equal = false
+is_less Greater = false
 
-abbrev is_same : Order → Bool
+abbrev is_same : Ordering → Bool
 is_same Less = false
-is_same Same = true
-is_same More = false
+is_same Equal = true
+is_same Greater = false
 
-pub same_less : {A : Type 0} → Same ≡ Less → A
+pub same_less : {A : Type 0} → Equal ≡ Less → A
 same_less e = never (sym (ap is_less e))
 
-pub more_less : {A : Type 0} → More ≡ Less → A
+pub more_less : {A : Type 0} → Greater ≡ Less → A
 more_less e = never (sym (ap is_less e))
 
-pub more_same : {A : Type 0} → More ≡ Same → A
+pub more_same : {A : Type 0} → Greater ≡ Equal → A
 more_same e = never (sym (ap is_same e))
 
 -- not after is before or the same
-pub in_order_lem : {A : Type 0} (o : Order) → in_order o ≡ true → (o ≡ Less → A) → (o ≡ Same → A) → A
+pub in_order_lem : {A : Type 0} (o : Ordering) → is_le o ≡ true → (o ≡ Less → A) → (o ≡ Equal → A) → A
 in_order_lem Less e f g = f refl
-in_order_lem Same e f g = g refl
-in_order_lem More e f g = never (sym e)
+in_order_lem Equal e f g = g refl
+in_order_lem Greater e f g = never (sym e)
 
 -- a number is less than another, the same or more
 pub compared : {A : Type 0} (x y : ℕ) → (x < y → A) → (x ≡ y → A) → (y < x → A) → A
@@ -47,13 +50,17 @@ compared {A} x y f g h = go (ltb x y) (ltb y x) refl refl
     go false true p q = h (ltb-true y x q)
     go false false p q = let a : y ≤ x = ltb-false x y p in let b : x ≤ y = ltb-false y x q in g (omega arith)
 
+-- what `cmp` answers of two numbers, by its cases
+pub told : (x y : ℕ) (r o : Ordering) → r ≡ nat_cmp x y → (x < y → Less ≡ o) → (x ≡ y → Equal ≡ o) → (y < x → Greater ≡ o) → r ≡ o
+told x y r o e f g h = e ∙ compared x y (λ p. sym (nat_cmp_is x y Less p) ∙ f p) (λ p. sym (nat_cmp_is x y Equal p) ∙ g p) (λ p. sym (nat_cmp_is x y Greater p) ∙ h p)
+
 -- ---- by the first elements
 module _ (x y : ℕ) (xs ys : List ℕ) where
   pub by_less : x < y → order (x ∷ xs) (y ∷ ys) ≡ Less
   unfolding order
   by_less h = rw (lt-ltb x y h)
 
-  pub by_more : y < x → order (x ∷ xs) (y ∷ ys) ≡ More
+  pub by_more : y < x → order (x ∷ xs) (y ∷ ys) ≡ Greater
   unfolding order
   by_more h = let g : y ≤ x = omega arith in rw (le-ltb x y g, lt-ltb y x h)
 
@@ -65,12 +72,12 @@ module _ (x y : ℕ) (xs ys : List ℕ) where
   less_by e f g = compared x y f (λ h. g h (sym (by_rest h) ∙ e)) (λ h. more_less (sym (by_more h) ∙ e))
 
 -- ---- the laws of an order
-pub order_refl : (l : List ℕ) → order l l ≡ Same
+pub order_refl : (l : List ℕ) → order l l ≡ Equal
 unfolding order
 order_refl [] = refl
 order_refl (x ∷ xs) = by_rest x x xs xs refl ∙ order_refl xs
 
-pub order_same : (l m : List ℕ) → order l m ≡ Same → l ≡ m
+pub order_same : (l m : List ℕ) → order l m ≡ Equal → l ≡ m
 unfolding order
 order_same [] [] e = refl
 order_same [] (y ∷ ys) e = same_less (sym e)
@@ -80,7 +87,7 @@ order_same (x ∷ xs) (y ∷ ys) e =
     (λ h. ap₂ (λ z zs. z ∷ zs) h (order_same xs ys (sym (by_rest x y xs ys h) ∙ e)))
     (λ h. never (ap is_same (sym e ∙ by_more x y xs ys h)))
 
-pub order_more : (l m : List ℕ) → order l m ≡ More → order m l ≡ Less
+pub order_more : (l m : List ℕ) → order l m ≡ Greater → order m l ≡ Less
 unfolding order
 order_more [] [] e = never (ap is_same e)
 order_more [] (y ∷ ys) e = more_less (sym e)
@@ -102,7 +109,7 @@ order_trans (x ∷ xs) (y ∷ ys) (z ∷ zs) e f =
     (λ h. less_by y z ys zs f (λ g. by_less x z xs zs (omega arith)) (λ g _. by_less x z xs zs (omega arith)))
     (λ h a. less_by y z ys zs f (λ g. by_less x z xs zs (omega arith)) (λ g b. by_rest x z xs zs (h ∙ g) ∙ order_trans xs ys zs a b))
 
-pub order_less : (l m : List ℕ) → order l m ≡ Less → order m l ≡ More
+pub order_less : (l m : List ℕ) → order l m ≡ Less → order m l ≡ Greater
 unfolding order
 order_less [] [] e = same_less e
 order_less [] (y ∷ ys) e = refl
@@ -111,35 +118,35 @@ order_less (x ∷ xs) (y ∷ ys) e =
     less_by x y xs ys e (λ h. by_more y x ys xs h) (λ h a. by_rest y x ys xs (sym h) ∙ order_less xs ys a)
 
 -- what is not after something is before what that is before
-pub before_less : (l m n : List ℕ) → in_order (order l m) ≡ true → order m n ≡ Less → order l n ≡ Less
+pub before_less : (l m n : List ℕ) → is_le (order l m) ≡ true → order m n ≡ Less → order l n ≡ Less
 before_less l m n e f = in_order_lem (order l m) e (λ g. order_trans l m n g f) (λ g. rw (order_same l m g) f)
 
 -- what is before something is before what that is not after
-pub less_before : (l m n : List ℕ) → order l m ≡ Less → in_order (order m n) ≡ true → order l n ≡ Less
+pub less_before : (l m n : List ℕ) → order l m ≡ Less → is_le (order m n) ≡ true → order l n ≡ Less
 less_before l m n e f = in_order_lem (order m n) f (order_trans l m n e) (λ g. rw (← order_same m n g) e)
 
 -- what something is not after is after what that is after
-pub after_more : (l m n : List ℕ) → in_order (order l m) ≡ true → order l n ≡ More → order m n ≡ More
+pub after_more : (l m n : List ℕ) → is_le (order l m) ≡ true → order l n ≡ Greater → order m n ≡ Greater
 after_more l m n e f =
     in_order_lem (order l m) e
     (λ g. order_less n m (order_trans n l m (order_more l n f) g))
     (λ g. rw (← order_same l m g) f)
 
 -- what is after something, that is not after it
-pub in_order_turned : (l m : List ℕ) → in_order (order l m) ≡ false → in_order (order m l) ≡ true
+pub in_order_turned : (l m : List ℕ) → is_le (order l m) ≡ false → is_le (order m l) ≡ true
 in_order_turned l m e = go (order l m) refl
   where
-    go : (o : Order) → order l m ≡ o → in_order (order m l) ≡ true
-    go Less f = never (ap in_order (sym f) ∙ e)
-    go Same f = never (ap in_order (sym f) ∙ e)
-    go More f = rw (order_more l m f)
+    go : (o : Ordering) → order l m ≡ o → is_le (order m l) ≡ true
+    go Less f = never (ap is_le (sym f) ∙ e)
+    go Equal f = never (ap is_le (sym f) ∙ e)
+    go Greater f = rw (order_more l m f)
 
 -- what is not after something is not after what that is not after, and two of which neither is after the other are equal
-pub in_order_trans : (l m n : List ℕ) → in_order (order l m) ≡ true → in_order (order m n) ≡ true → in_order (order l n) ≡ true
+pub in_order_trans : (l m n : List ℕ) → is_le (order l m) ≡ true → is_le (order m n) ≡ true → is_le (order l n) ≡ true
 in_order_trans l m n e f =
     in_order_lem (order l m) e (λ g. rw (less_before l m n g f)) (λ g. rw (order_same l m g) f)
 
-pub in_order_both : (l m : List ℕ) → in_order (order l m) ≡ true → in_order (order m l) ≡ true → l ≡ m
+pub in_order_both : (l m : List ℕ) → is_le (order l m) ≡ true → is_le (order m l) ≡ true → l ≡ m
 in_order_both l m e f =
     in_order_lem (order l m) e (λ g. never (sym f ∙ rw (order_less l m g))) (order_same l m)
 
@@ -148,7 +155,7 @@ abbrev pub begun : ℕ → List ℕ → List ℕ
 begun zero l = []
 begun (suc n) l = suc n ∷ l
 
-pub begun_same : (x y : ℕ) (l m : List ℕ) → x ≡ y → x ≡ 0 → order (begun x l) (begun y m) ≡ Same
+pub begun_same : (x y : ℕ) (l m : List ℕ) → x ≡ y → x ≡ 0 → order (begun x l) (begun y m) ≡ Equal
 unfolding order
 begun_same x y l m e z = rw (sym e ∙ z, z)
 
@@ -163,7 +170,7 @@ begun_less x zero l m h = absurd (omega arith)
 begun_less zero (suc y) l m h = refl
 begun_less (suc x) (suc y) l m h = by_less (suc x) (suc y) l m h
 
-pub begun_more : (x y : ℕ) (l m : List ℕ) → y < x → order (begun x l) (begun y m) ≡ More
+pub begun_more : (x y : ℕ) (l m : List ℕ) → y < x → order (begun x l) (begun y m) ≡ Greater
 unfolding order
 begun_more zero y l m h = absurd (omega arith)
 begun_more (suc x) zero l m h = refl

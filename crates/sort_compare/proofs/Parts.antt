@@ -3,7 +3,7 @@
 use mathlib.Core.Path.{◌≡◌, refl, sym, ◌∙◌, ap}
 use mathlib.Core.Bool.{Bool, true, false}
 use mathlib.Core.List.{List, [], ◌∷◌}
-use Prim.Native.Nat.{ℕ, zero, suc, ◌+◌, ◌-◌, ◌<◌, ◌≤◌}
+use Prim.Native.Nat.{ℕ, zero, suc, ◌+◌, ◌-◌, ◌<◌, ◌≤◌, min, max}
 use native.Mathlib.Omega.{arith}
 use borrow.Author.Tests.{eq-eqb, ne_eqb, lt-ltb, le-ltb, eqb-true, ltb-true}
 use lib.Dec.{eqb, ltb}
@@ -16,31 +16,29 @@ use Rattle.text_scan.proofs.Within.{inside, drop_here}
 use Rattle.table_lines.specs.Lines.{is_tab, front}
 use Rattle.table_lines.specs.Blocks.{plain_end}
 use Rattle.table_lines.proofs.Blocks.{along}
-use Rattle.sort_compare.specs.declared.Order.{Order}
-use Rattle.sort_compare.specs.declared.Order.TheVariants.{Less, Same, More}
+use Rattle.std.specs.declared.cmp.Ordering.{Ordering}
+use Rattle.std.specs.declared.cmp.Ordering.TheVariants.{Less, Equal, Greater}
 use Rattle.sort_compare.specs.Order.{order}
 use Rattle.sort_compare.specs.Fields.{ends, front_field, shown, next_place}
 use Rattle.sort_compare.specs.Units.{alike_from, unit_of}
-use Rattle.sort_compare.proofs.Ordering.{by_less, by_more, by_rest}
+use Rattle.std.specs.Ordering.{nat_cmp}
+use Rattle.sort_compare.proofs.Ordering.{by_less, by_more, by_rest, told}
 
 -- ---- what follows a place
-pub rest_here : (s : List ℕ) (i : ℕ) → i < length s → take (length s - i) (drop i s) ≡ drop i s
-rest_here s i h = take_all (length s - i) (drop i s) (omega (arith, length-drop i s))
+pub rest_from : (s : List ℕ) (i m : ℕ) → m ≡ min i (length s) → take (length s - m) (drop m s) ≡ drop i s
+rest_from s i m e = inside (length s) i (λ h. at (omega arith)) (λ h. past h (omega arith))
+  where
+    at : m ≡ i → take (length s - m) (drop m s) ≡ drop i s
+    at f = rw f (take_all (length s - i) (drop i s) (omega (arith, length-drop i s)))
 
-pub rest_past : (s : List ℕ) (i : ℕ) → length s ≤ i → take (length s - length s) (drop (length s) s) ≡ drop i s
-rest_past s i h =
-    let z : length s - length s ≡ 0 = omega arith in
-    rw (z, drop_of_length-le s h)
+    past : length s ≤ i → m ≡ length s → take (length s - m) (drop m s) ≡ drop i s
+    past h f =
+        let z : length s - length s ≡ 0 = omega arith in
+        rw (f, z, drop_of_length-le s h)
 
 -- ---- where a part ends
 pub ends_tab : (cut : Bool) (b : ℕ) → cut ≡ true → b ≡ 9 → true ≡ ends cut b
 ends_tab cut b e f = rw (e, f)
-
-pub ends_feed : (cut : Bool) (b : ℕ) → cut ≡ true → (b ≡ 9 → ⊥) → eqb b 10 ≡ ends cut b
-ends_feed cut b e f = rw (e, ne_eqb b 9 f)
-
-pub ends_not : (cut : Bool) (b : ℕ) → cut ≡ false → false ≡ ends cut b
-ends_not cut b e = rw e
 
 pub no_end : (cut : Bool) (b : ℕ) → (b ≡ 9 → ⊥) → (b ≡ 10 → ⊥) → ends cut b ≡ false
 no_end cut b e f = rw (ne_eqb b 9 e, ne_eqb b 10 f) (and_false cut)
@@ -64,13 +62,16 @@ shown_none : (any : Bool) (bs : List ℕ) → unit_of (shown any bs) ≡ 0 → b
 shown_none any [] e = refl
 shown_none any (b ∷ bs) e = absurd (let f = rw (shown_cons any b bs) at e in omega arith)
 
-pub unit_any : (any : Bool) (b r : ℕ) → any ≡ true → r ≡ lower b → r + 1 ≡ unit_of (shown any (b ∷ []))
+pub unit_any : (any : Bool) (b x y r : ℕ) → any ≡ true → x ≡ lower b → y ≡ x → r ≡ y → r + 1 ≡ unit_of (shown any (b ∷ []))
 unfolding shown
-unit_any any b r e f = rw (e, ← f) (omega arith)
+unit_any any b x y r e f g h = rw (e, ← f) (omega arith)
 
 pub unit_exact : (any : Bool) (b : ℕ) → any ≡ false → b + 1 ≡ unit_of (shown any (b ∷ []))
 unfolding shown
 unit_exact any b e = rw e (omega arith)
+
+pub unit_plain : (any : Bool) (b y r : ℕ) → any ≡ false → y ≡ b → r ≡ y → r + 1 ≡ unit_of (shown any (b ∷ []))
+unit_plain any b y r e f g = rw (g ∙ f) (unit_exact any b e)
 
 module _ (cut : Bool) (t : List ℕ) (k : ℕ) where
   part_past : length t ≤ k → front_field cut (drop k t) ≡ []
@@ -117,8 +118,13 @@ abbrev pub Ending : List ℕ → ℕ → ℕ → Type 0
 Ending s at i = at + length (front_field true (drop at s)) ≡ i + length (front_field true (drop i s))
 
 module _ (s : List ℕ) (at i : ℕ) (l : Ending s at i) where
-  pub end_past : length s ≤ i → i ≡ at + length (front_field true (drop at s))
+  end_past : length s ≤ i → i ≡ at + length (front_field true (drop at s))
   end_past h = omega (arith, l, ap length (part_past true s i h))
+
+  pub end_most : (from m : ℕ) → m ≡ max from (length s) → length s ≤ i → from ≤ i → i ≤ max from (length s) → m ≡ at + length (front_field true (drop at s))
+  end_most from m e h g f =
+      let p : m ≡ i = omega arith in
+      rw p (end_past h)
 
   module _ (h : i < length s) (u : Bool) (eu : u ≡ ends true (get_or s i 0)) where
     pub end_here : u ≡ true → i ≡ at + length (front_field true (drop at s))
@@ -185,6 +191,11 @@ module _ (x y : List ℕ) (k : ℕ) (l : Alike x y k) where
             one : alike_from (drop k x) (drop k y) ≡ suc (alike_from (drop (k + 1) x) (drop (k + 1) y))
             one = unfold alike_from in rw (drop_here x k h, drop_here y k g, eq-eqb (get_or x k 0) (get_or y k 0) e, lt-ltb 13 (get_or x k 0) f)
 
+pub alike_ends : (x y : List ℕ) (k n : ℕ) → n ≡ min (length x) (length y) → Alike x y k → n ≤ k → k ≤ n → n ≡ alike_from x y
+alike_ends x y k n e l h g =
+    let f : n ≡ k = omega arith in
+    rw f (inside (length x) k (λ p. alike_none x y k l p (omega arith)) (λ p. alike_past x y k l p))
+
 -- each of them
 alike_at : (x y : List ℕ) (k : ℕ) → k < alike_from x y → (get_or x k 0 ≡ get_or y k 0) × (13 < get_or x k 0)
 unfolding alike_from
@@ -230,7 +241,7 @@ unit_less [] (y ∷ ys) h = refl
 unit_less (x ∷ xs) [] h = absurd (omega arith)
 unit_less (x ∷ xs) (y ∷ ys) h = by_less x y xs ys (omega arith)
 
-unit_more : (l m : List ℕ) → unit_of m < unit_of l → order l m ≡ More
+unit_more : (l m : List ℕ) → unit_of m < unit_of l → order l m ≡ Greater
 unfolding order
 unit_more [] [] h = absurd (omega arith)
 unit_more [] (y ∷ ys) h = absurd (omega arith)
@@ -247,7 +258,7 @@ unfoldable pub Comparing : List ℕ → List ℕ → Bool → ℕ → Type 0
 Comparing x v any k = order (shown any (front_field true x)) (shown any v) ≡ order (shown any (front_field true (drop k x))) (shown any (front_field false (drop k v)))
 
 module _ (x v : List ℕ) (any : Bool) where
-  abbrev asked : Order
+  abbrev asked : Ordering
   asked = order (shown any (front_field true x)) (shown any v)
 
   value_starts : Comparing x v any 0
@@ -262,25 +273,31 @@ module _ (x v : List ℕ) (any : Bool) where
         ∙ rw (part_goes true x k h e, part_goes false v k g f, shown_cons any (get_or x k 0) (front_field true (drop (k + 1) x)), shown_cons any (get_or v k 0) (front_field false (drop (k + 1) v)))
         (by_rest (shown_byte any (get_or x k 0)) (shown_byte any (get_or v k 0)) (shown any (front_field true (drop (k + 1) x))) (shown any (front_field false (drop (k + 1) v))) q)
 
-    pub value_over : k ≤ length x → length x < k → Same ≡ asked
+    pub value_over : k ≤ length x → length x < k → Equal ≡ asked
     value_over h g = absurd (omega arith)
 
     module _ (u : ℕ) (eu : u ≡ unit_of (shown any (front_field true (drop k x)))) (w : ℕ) (ew : w ≡ unit_of (shown any (front_field false (drop k v)))) where
-      pub value_less : u < w → Less ≡ asked
+      value_less : u < w → Less ≡ asked
       unfolding Comparing
       value_less h = sym (l ∙ unit_less (shown any (front_field true (drop k x))) (shown any (front_field false (drop k v))) (rw (← eu, ← ew) h))
 
-      pub value_more : w < u → More ≡ asked
+      value_more : w < u → Greater ≡ asked
       unfolding Comparing
       value_more h = sym (l ∙ unit_more (shown any (front_field true (drop k x))) (shown any (front_field false (drop k v))) (rw (← eu, ← ew) h))
 
-      module _ (h : w ≤ u) (g : u ≤ w) where
-        same : w ≡ u
-        same = omega arith
+      pub value_told : (u ≡ w → ⊥) → (r : Ordering) → r ≡ nat_cmp u w → r ≡ asked
+      value_told z r e = told u w r asked e value_less (λ h. absurd (z h)) value_more
 
-        pub value_same : u ≡ 0 → Same ≡ asked
+      module _ (q : u ≡ w) where
+        same : w ≡ u
+        same = sym q
+
+        ended : u ≡ 0 → Equal ≡ asked
         unfolding Comparing order
-        value_same z = sym (l ∙ rw (unit_none true x k any u eu z, unit_none false v k any w ew (same ∙ z), shown_nil any))
+        ended z = sym (l ∙ rw (unit_none true x k any u eu z, unit_none false v k any w ew (same ∙ z), shown_nil any))
+
+        pub value_same : u ≡ 0 → (r : Ordering) → r ≡ nat_cmp u w → r ≡ asked
+        value_same z r e = told u w r asked e (λ h. absurd (omega arith)) (λ h. ended z) (λ h. absurd (omega arith))
 
         pub value_inside : (u ≡ 0 → ⊥) → k + 1 ≤ length x
         value_inside z = omega (arith, unit_inside true x k any u eu z)

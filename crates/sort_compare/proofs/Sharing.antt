@@ -2,7 +2,7 @@
 -- Assumes nothing.
 use mathlib.Core.Path.{◌≡◌, refl, sym, ◌∙◌, ap}
 use mathlib.Core.Bool.{Bool, true, false, ◌&&◌}
-use mathlib.Core.List.{List, [], ◌∷◌}
+use mathlib.Core.List.{List, ◌∷◌}
 use Prim.Native.Nat.{ℕ, zero, suc, ◌+◌, ◌-◌, ◌<◌, ◌≤◌}
 use native.Mathlib.Omega.{arith}
 use borrow.Author.Tests.{eq-eqb, ne_eqb, lt-ltb, eqb-true, eqb-false, not-true}
@@ -12,12 +12,13 @@ use Rattle.text_scan.specs.Choice.{pick, ◌and◌, not}
 use Rattle.text_scan.proofs.Tests.{and_left, and_right}
 use Rattle.text_scan.proofs.Within.{there, holds_there, drop_here}
 use Rattle.table_lines.specs.Lines.{is_tab, front}
-use Rattle.sort_compare.specs.declared.Order.{Order}
-use Rattle.sort_compare.specs.declared.Order.TheVariants.{Less, Same, More}
+use Rattle.std.specs.declared.cmp.Ordering.{Ordering}
+use Rattle.std.specs.declared.cmp.Ordering.TheVariants.{Less, Equal, Greater}
 use Rattle.sort_compare.specs.Order.{order}
 use Rattle.sort_compare.specs.Fields.{is_feed, front_field, after_field, shown, fields_from, coded, row_key}
 use Rattle.sort_compare.specs.Units.{unit_of, sharing, tabs_in}
-use Rattle.sort_compare.proofs.Ordering.{order_refl}
+use Rattle.std.specs.Ordering.{nat_cmp}
+use Rattle.sort_compare.proofs.Ordering.{order_refl, told}
 use Rattle.sort_compare.proofs.Parts.{shown_byte, ends_tab, no_end, unit_exact, unit_end, unit_here, next_tab}
 use Rattle.sort_compare.proofs.Comparing.{RowsFrom, rows_start, rows_same, row_less, row_more, on, field_over}
 
@@ -66,7 +67,7 @@ module _ (s : List ℕ) (i j k : ℕ) where
     block_joined m t e f = joined m (sym e ∙ f)
 
 module _ (s : List ℕ) (i k m : ℕ) (e : m ≡ tabs_in s i k) where
-  pub tab_more : get_or s (i + k) 0 ≡ 9 → m + 1 ≡ tabs_in s i (k + 1)
+  tab_more : get_or s (i + k) 0 ≡ 9 → m + 1 ≡ tabs_in s i (k + 1)
   unfolding tabs_in
   tab_more f =
       let g : k + 1 ≡ suc k = omega arith in
@@ -77,6 +78,12 @@ module _ (s : List ℕ) (i k m : ℕ) (e : m ≡ tabs_in s i k) where
   tab_none f =
       let g : k + 1 ≡ suc k = omega arith in
       rw (g, ne_eqb (get_or s (i + k) 0) 9 f) e
+
+  pub tabs_more : get_or s (i + k) 0 ≡ 9 → (r : ℕ) → r ≡ m + 1 → r ≡ tabs_in s i (k + 1)
+  tabs_more f r g = g ∙ tab_more f
+
+  pub tabs_same : (get_or s (i + k) 0 ≡ 9 → ⊥) → (r : ℕ) → r ≡ m → r ≡ tabs_in s i (k + 1)
+  tabs_same f r g = g ∙ tab_none f
 
   pub tabs_whole : (n : ℕ) → k ≤ n → n ≤ k → m ≡ tabs_in s i n
   tabs_whole n h g =
@@ -103,7 +110,7 @@ module _ (s : List ℕ) (a b fields folded : ℕ) where
         let z : 0 - 1 ≡ 0 = omega arith in
         rw z (none_left i j (i + 1) (j + 1) l)
     over_tab (suc n) l e f =
-        field_over s a b fields folded i j (suc n) l (omega arith) 0 (ended i h e) 0 (ended j g f) (omega arith) (omega arith) refl (i + 1) (j + 1) (next_tab s i e) (next_tab s j f)
+        field_over s a b fields folded i j (suc n) l (omega arith) 0 (ended i h e) 0 (ended j g f) refl refl (i + 1) (j + 1) (next_tab s i e) (next_tab s j f)
       where
         ended : (k : ℕ) → k < length s → get_or s k 0 ≡ 9 → 0 ≡ unit_of (shown (eqb (suc n) folded) (front_field true (drop k s)))
         ended k p q = unit_end true s k (eqb (suc n) folded) p true (ends_tab true (get_or s k 0) refl q) refl
@@ -152,14 +159,14 @@ feed_fields zero folded xs ys = refl
 feed_fields (suc n) folded xs ys = rw (feed_fields n folded xs ys)
 
 module _ (s : List ℕ) (i j fields folded : ℕ) where
-  abbrev asked : Order
+  abbrev asked : Ordering
   asked = order (row_key fields folded (drop i s)) (row_key fields folded (drop j s))
 
   module _ (k : ℕ) (p : k ≤ length s - i) (q : k ≤ length s - j) (l : sharing s i j k ≡ true) where
     from : RowsFrom s i j fields folded (i + k) (j + k) (fields - tabs_in s i k)
     from = behind s i j fields folded i j fields (rows_start s i j fields folded) k p q l
 
-    pub share_feeds : (x y : ℕ) → x ≡ get_or s (i + k) 0 → x ≡ 10 → y ≡ get_or s (j + k) 0 → y ≡ 10 → Same ≡ asked
+    pub share_feeds : (x y : ℕ) → x ≡ get_or s (i + k) 0 → x ≡ 10 → y ≡ get_or s (j + k) 0 → y ≡ 10 → Equal ≡ asked
     unfolding RowsFrom row_key
     share_feeds x y u v w z =
         let e : get_or s (i + k) 0 ≡ 10 = sym u ∙ v in
@@ -169,14 +176,14 @@ module _ (s : List ℕ) (i j fields folded : ℕ) where
         sym (from ∙ rw (c, d, feed_fields (fields - tabs_in s i k) folded (drop (i + k + 1) s) (drop (j + k + 1) s)) (order_refl _))
 
     module _ (m : ℕ) (e : m ≡ tabs_in s i k) where
-      pub share_none : fields ≤ m → Same ≡ asked
+      pub share_none : fields ≤ m → Equal ≡ asked
       share_none h = rows_same s i j fields folded (i + k) (j + k) (fields - tabs_in s i k) from (omega arith)
 
-      pub share_asked : (r : Order) → r ≡ order (row_key (fields - m) folded (drop (i + k) s)) (row_key (fields - m) folded (drop (j + k) s)) → r ≡ asked
+      pub share_asked : (r : Ordering) → r ≡ order (row_key (fields - m) folded (drop (i + k) s)) (row_key (fields - m) folded (drop (j + k) s)) → r ≡ asked
       unfolding RowsFrom
       share_asked r f = (rw e at f) ∙ sym from
 
-  pub near_asked : (k : ℕ) → (k ≤ length s - i) × (k ≤ length s - j) × (sharing s i j k ≡ true) × (tabs_in s i k ≡ 0) → (r : Order) → r ≡ order (row_key fields folded (drop (i + k) s)) (row_key fields folded (drop (j + k) s)) → r ≡ asked
+  pub near_asked : (k : ℕ) → (k ≤ length s - i) × (k ≤ length s - j) × (sharing s i j k ≡ true) × (tabs_in s i k ≡ 0) → (r : Ordering) → r ≡ order (row_key fields folded (drop (i + k) s)) (row_key fields folded (drop (j + k) s)) → r ≡ asked
   unfolding RowsFrom
   near_asked k f r e = e ∙ sym (near_rows s i j fields folded i j fields (rows_start s i j fields folded) k f)
 
@@ -189,10 +196,15 @@ module _ (s : List ℕ) (i j left folded : ℕ) where
       (get_or s k 0 + 1) (unit_exact (eqb left folded) (get_or s k 0) (ne_eqb left folded z))
 
   module _ (x y : ℕ) (e : x ≡ get_or s i 0) (f : y ≡ get_or s j 0) (h : 0 < left) (z : left ≡ folded → ⊥) (p : 13 < x) (q : 13 < y) where
-    pub other_less : x < y → Less ≡ order (row_key left folded (drop i s)) (row_key left folded (drop j s))
-    other_less g =
-        row_less s i j left folded i j left (rows_start s i j left folded) h (get_or s i 0 + 1) (unit_high i z (omega arith)) (get_or s j 0 + 1) (unit_high j z (omega arith)) (omega arith)
+    pub other_told : (x ≡ y → ⊥) → (r : Ordering) → r ≡ nat_cmp x y → r ≡ order (row_key left folded (drop i s)) (row_key left folded (drop j s))
+    other_told v r o =
+        told x y r asked o (λ g. less (omega arith)) (λ g. absurd (v g)) (λ g. more (omega arith))
+      where
+        asked : Ordering
+        asked = order (row_key left folded (drop i s)) (row_key left folded (drop j s))
 
-    pub other_more : y < x → More ≡ order (row_key left folded (drop i s)) (row_key left folded (drop j s))
-    other_more g =
-        row_more s i j left folded i j left (rows_start s i j left folded) h (get_or s i 0 + 1) (unit_high i z (omega arith)) (get_or s j 0 + 1) (unit_high j z (omega arith)) (omega arith)
+        less : get_or s i 0 + 1 < get_or s j 0 + 1 → Less ≡ asked
+        less = row_less s i j left folded i j left (rows_start s i j left folded) h (get_or s i 0 + 1) (unit_high i z (omega arith)) (get_or s j 0 + 1) (unit_high j z (omega arith))
+
+        more : get_or s j 0 + 1 < get_or s i 0 + 1 → Greater ≡ asked
+        more = row_more s i j left folded i j left (rows_start s i j left folded) h (get_or s i 0 + 1) (unit_high i z (omega arith)) (get_or s j 0 + 1) (unit_high j z (omega arith))

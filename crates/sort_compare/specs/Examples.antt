@@ -5,14 +5,14 @@ use Rattle.text_scan.specs.Bytes.{text}
 use Rattle.text_scan.specs.Lists.{run_end}
 use Rattle.xml_names.specs.Names.{name_at, name_end}
 use Rattle.table_lines.specs.Lines.{front}
-use Rattle.sort_compare.specs.declared.Order.TheVariants.{Less, Same, More}
+use Rattle.std.specs.declared.cmp.Ordering.TheVariants.{Less, Equal, Greater}
 use Rattle.sort_compare.specs.declared.By.{By}
 use Rattle.sort_compare.specs.Order.{order}
 use Rattle.sort_compare.specs.Fields.{front_field, after_field, shown, fields_from, coded, row_key}
 use Rattle.sort_compare.specs.Keys.{key_at}
 
 -- ---- the order: a capital letter is less than a small one, and a name less than a longer one that begins with it
-order_byte : order (text "abc") (text "aBcd") ≡ More
+order_byte : order (text "abc") (text "aBcd") ≡ Greater
 unfolding order
 order_byte = refl
 
@@ -20,7 +20,7 @@ order_longer : order (text "ab") (text "abc") ≡ Less
 unfolding order
 order_longer = refl
 
-order_same : order (text "a-1") (text "a-1") ≡ Same
+order_same : order (text "a-1") (text "a-1") ≡ Equal
 unfolding order
 order_same = refl
 
@@ -43,7 +43,7 @@ unfolding fields_from front_field front after_field shown
 fields_missing = refl
 
 -- rows are told by the case of their codes and not by that of their display names
-rows_any : order (key_at By.Code (text "a\tb\tNAME\na\tb\tname\n") 0) (key_at By.Code (text "a\tb\tNAME\na\tb\tname\n") 9) ≡ Same
+rows_any : order (key_at By.Code (text "a\tb\tNAME\na\tb\tname\n") 0) (key_at By.Code (text "a\tb\tNAME\na\tb\tname\n") 9) ≡ Equal
 unfolding order row_key coded fields_from front_field front after_field shown
 rows_any = refl
 

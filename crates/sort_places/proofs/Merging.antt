@@ -10,7 +10,8 @@ use lib.ListN.{length, take, drop, get_or, set, length-set, drop_of_length-le, t
 use lib.Seq.{append_snoc, take-suc-set, drop-set-lt}
 use Rattle.text_scan.proofs.Tests.{and_left, and_right}
 use Rattle.text_scan.proofs.Within.{drop_here}
-use Rattle.sort_compare.specs.Order.{order, in_order}
+use Rattle.std.specs.Ordering.{is_le}
+use Rattle.sort_compare.specs.Order.{order}
 use Rattle.sort_compare.proofs.Ordering.{in_order_turned}
 use Rattle.sort_places.specs.Sorting.{count, Rearranged, leads, rising, with_place, Sorted}
 use Rattle.sort_places.proofs.Counting.{count_append}
@@ -78,7 +79,7 @@ module _ (key : ℕ → List ℕ) (left all : List ℕ) (i j k : ℕ) (a : List 
   pub merge_last : (m : ℕ) → length a ≡ m → j ≤ m → length a ≤ j → Merging key left all (i + 1) j (k + 1) (set a k (get_or left i 0))
   merge_last m z n g = left_over (get_or left i 0) refl (rw (drop_of_length-le a g)) (omega arith)
 
-  module _ (g : j < length a) (r : Bool) (er : r ≡ in_order (order (key (get_or left i 0)) (key (get_or a j 0)))) where
+  module _ (g : j < length a) (r : Bool) (er : r ≡ is_le (order (key (get_or left i 0)) (key (get_or a j 0)))) where
     pub merge_left : r ≡ true → Merging key left all (i + 1) j (k + 1) (set a k (get_or left i 0))
     merge_left f = left_over (get_or left i 0) refl (rw (drop_here a j g) (sym er ∙ f)) (omega arith)
 

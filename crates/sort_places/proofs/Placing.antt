@@ -3,59 +3,53 @@
 use mathlib.Core.Path.{◌≡◌, refl, sym, ◌∙◌, ap, ap₂}
 use mathlib.Core.Bool.{Bool, true, false}
 use mathlib.Core.List.{List, [], ◌∷◌}
-use Prim.Native.Nat.{ℕ, ◌+◌, ◌<◌, ◌≤◌}
+use Prim.Native.Nat.{ℕ, ◌+◌, ◌<◌}
 use native.Mathlib.Omega.{arith}
-use borrow.Author.Tests.{eqb-true, eq-eqb, le-leb, lt-leb}
-use lib.Dec.{eqb, leb}
+use borrow.Author.Tests.{eqb-true, eq-eqb}
+use lib.Dec.{eqb}
 use lib.ListN.{get_or}
 use Rattle.text_scan.specs.Choice.{pick}
 use Rattle.text_scan.proofs.Tests.{and_left, and_right}
-use Rattle.sort_compare.specs.declared.Order.{Order}
-use Rattle.sort_compare.specs.declared.Order.TheVariants.{Less, Same, More}
-use Rattle.sort_compare.specs.Order.{order, then_by, in_order}
+use Rattle.std.specs.declared.cmp.Ordering.{Ordering}
+use Rattle.std.specs.declared.cmp.Ordering.TheVariants.{Less, Equal, Greater}
+use Rattle.std.specs.Ordering.{nat_cmp, ordering_then, is_le}
+use Rattle.sort_compare.specs.Order.{order}
 use Rattle.sort_compare.specs.Fields.{coded}
 use Rattle.sort_compare.proofs.Comparing.{order_coded}
-use Rattle.sort_compare.proofs.Ordering.{same_less, more_same, compared, by_less, by_more, order_refl, order_same, in_order_trans, in_order_both}
+use Rattle.sort_compare.proofs.Ordering.{same_less, more_same, told, by_less, by_more, order_refl, order_same, in_order_trans, in_order_both}
 use Rattle.sort_places.specs.Sorting.{count, Rearranged, leads, rising, with_place, Sorted}
 
-then_same : (o : Order) → then_by o Same ≡ o
+then_same : (o : Ordering) → ordering_then o Equal ≡ o
 then_same Less = refl
-then_same Same = refl
-then_same More = refl
+then_same Equal = refl
+then_same Greater = refl
 
 -- ---- two positions
 module _ (key : ℕ → List ℕ) (b c : ℕ) where
-  place_order : order (with_place key b) (with_place key c) ≡ then_by (order (key b) (key c)) (order (b ∷ []) (c ∷ []))
+  place_order : order (with_place key b) (with_place key c) ≡ ordering_then (order (key b) (key c)) (order (b ∷ []) (c ∷ []))
   unfolding with_place
   place_order =
       order_coded (key b) (key c) ((b ∷ []) ∷ []) ((c ∷ []) ∷ [])
-      ∙ ap (then_by (order (key b) (key c))) (order_coded (b ∷ []) (c ∷ []) [] [] ∙ ap (then_by (order (b ∷ []) (c ∷ []))) (order_refl (coded [])) ∙ then_same (order (b ∷ []) (c ∷ [])))
+      ∙ ap (ordering_then (order (key b) (key c))) (order_coded (b ∷ []) (c ∷ []) [] [] ∙ ap (ordering_then (order (b ∷ []) (c ∷ []))) (order_refl (coded [])) ∙ then_same (order (b ∷ []) (c ∷ [])))
 
-  number_order : leb b c ≡ in_order (order (b ∷ []) (c ∷ []))
+  number_order : nat_cmp b c ≡ order (b ∷ []) (c ∷ [])
   number_order =
-      compared b c
-      (λ h. let g : b ≤ c = omega arith in rw (le-leb b c g, by_less b c [] [] h))
-      (λ h. let g : b ≤ c = omega arith in rw (le-leb b c g, h, order_refl (c ∷ [])))
-      (λ h. rw (lt-leb b c h, by_more b c [] [] h))
+      told b c (nat_cmp b c) (order (b ∷ []) (c ∷ [])) refl
+      (λ h. sym (by_less b c [] [] h))
+      (λ h. rw h (sym (order_refl (c ∷ []))))
+      (λ h. sym (by_more b c [] [] h))
 
   -- as the code finds out whether b is not after c
-  module _ (r : Order) (e : r ≡ order (key b) (key c)) where
-    pub in_order_less : r ≡ Less → true ≡ in_order (order (with_place key b) (with_place key c))
-    in_order_less f = rw (place_order, ← e, f)
+  pub told_in_order : (r : Bool) (q o p : Ordering) → r ≡ is_le q → q ≡ ordering_then o p → o ≡ order (key b) (key c) → p ≡ nat_cmp b c → r ≡ is_le (order (with_place key b) (with_place key c))
+  told_in_order r q o p g h e f = g ∙ rw (h, place_order, ← e, ← number_order, ← f)
 
-    pub in_order_same : r ≡ Same → leb b c ≡ in_order (order (with_place key b) (with_place key c))
-    in_order_same f = rw (place_order, ← e, f) number_order
-
-    pub in_order_more : r ≡ More → false ≡ in_order (order (with_place key b) (with_place key c))
-    in_order_more f = rw (place_order, ← e, f)
-
-  keys_in_order : in_order (order (with_place key b) (with_place key c)) ≡ true → in_order (order (key b) (key c)) ≡ true
+  keys_in_order : is_le (order (with_place key b) (with_place key c)) ≡ true → is_le (order (key b) (key c)) ≡ true
   keys_in_order e = go (order (key b) (key c)) (rw place_order at e)
     where
-      go : (o : Order) → in_order (then_by o (order (b ∷ []) (c ∷ []))) ≡ true → in_order o ≡ true
+      go : (o : Ordering) → is_le (ordering_then o (order (b ∷ []) (c ∷ []))) ≡ true → is_le o ≡ true
       go Less f = refl
-      go Same f = refl
-      go More f = f
+      go Equal f = refl
+      go Greater f = f
 
   -- only a position is the same as itself
   same_place : with_place key b ≡ with_place key c → b ≡ c
@@ -63,10 +57,10 @@ module _ (key : ℕ → List ℕ) (b c : ℕ) where
       ap (λ (l : List ℕ). get_or l 0 0)
       (order_same (b ∷ []) (c ∷ []) (go (order (key b) (key c)) (sym place_order ∙ ap (order (with_place key b)) (sym e) ∙ order_refl (with_place key b))))
     where
-      go : (o : Order) → then_by o (order (b ∷ []) (c ∷ [])) ≡ Same → order (b ∷ []) (c ∷ []) ≡ Same
+      go : (o : Ordering) → ordering_then o (order (b ∷ []) (c ∷ [])) ≡ Equal → order (b ∷ []) (c ∷ []) ≡ Equal
       go Less f = same_less (sym f)
-      go Same f = f
-      go More f = more_same f
+      go Equal f = f
+      go Greater f = more_same f
 
 -- ---- keys rise
 module _ (key : ℕ → List ℕ) where
@@ -95,14 +89,14 @@ counts_itself b bs = rw (eq-eqb b b refl) (omega arith)
 
 module _ (key : ℕ → List ℕ) where
   -- the first of those that rise is not after any of them
-  here_or_behind : (b c n : ℕ) → 0 < pick (eqb c b) 1 0 + n → (0 < n → in_order (order (key b) (key c)) ≡ true) → in_order (order (key b) (key c)) ≡ true
+  here_or_behind : (b c n : ℕ) → 0 < pick (eqb c b) 1 0 + n → (0 < n → is_le (order (key b) (key c)) ≡ true) → is_le (order (key b) (key c)) ≡ true
   here_or_behind b c n h f = go (eqb c b) refl h
     where
-      go : (t : Bool) → eqb c b ≡ t → 0 < pick t 1 0 + n → in_order (order (key b) (key c)) ≡ true
+      go : (t : Bool) → eqb c b ≡ t → 0 < pick t 1 0 + n → is_le (order (key b) (key c)) ≡ true
       go true e g = rw (eqb-true c b e, order_refl (key b))
       go false e g = f (omega arith)
 
-  first_leads : (b : ℕ) (bs : List ℕ) (c : ℕ) → rising key (b ∷ bs) ≡ true → 0 < count (eqb c) (b ∷ bs) → in_order (order (key b) (key c)) ≡ true
+  first_leads : (b : ℕ) (bs : List ℕ) (c : ℕ) → rising key (b ∷ bs) ≡ true → 0 < count (eqb c) (b ∷ bs) → is_le (order (key b) (key c)) ≡ true
   unfolding rising count
   first_leads b [] c e h = here_or_behind b c 0 h (λ g. absurd (omega arith))
   first_leads b (d ∷ ds) c e h =

@@ -10,18 +10,12 @@ use lib.ListN.{length, take, drop, get_or, take-append-drop, length-append, leng
 use lib.Seq.{length-take-le, take-suc, append_snoc, take_at, drop_at, take_all}
 use Rattle.text_scan.proofs.Tests.{and_left, and_right}
 use Rattle.text_scan.proofs.Within.{drop_here}
-use Rattle.sort_compare.specs.Order.{order, in_order}
+use Rattle.std.specs.Ordering.{is_le}
+use Rattle.sort_compare.specs.Order.{order}
 use Rattle.sort_places.specs.Sorting.{count, Rearranged, leads, rising, with_place, Sorted}
 use Rattle.sort_places.proofs.Counting.{count_append}
 use Rattle.sort_places.proofs.Merging.{leads_same}
 use Rattle.sort_places.proofs.Placing.{keys_rise}
-
--- ---- a part lent
-pub part_length : (l : List ℕ) (k : ℕ) → k < length l → k ≡ length (take k l)
-part_length l k h = sym (length-take-le k l (omega arith))
-
-pub part_fits : (l m : List ℕ) (k : ℕ) → k < length l → k ≤ length m → length (take k l) ≤ length m
-part_fits l m k h g = omega (arith, part_length l k h)
 
 -- ---- what a sort says
 module _ (key : ℕ → List ℕ) (bs cs : List ℕ) (d : Sorted key bs cs) where
@@ -65,7 +59,7 @@ module _ (key : ℕ → List ℕ) (a : List ℕ) (h : ℕ) (z : 0 < h) (l : h < 
   abbrev by : ℕ → List ℕ
   by = with_place key
 
-  pub goes_on_sorted : rising by (take h a) ≡ true → rising by (drop h a) ≡ true → (r : Bool) → r ≡ in_order (order (by (get_or a (h - 1) 0)) (by (get_or a h 0))) → r ≡ true → Sorted key a a
+  pub goes_on_sorted : rising by (take h a) ≡ true → rising by (drop h a) ≡ true → (r : Bool) → r ≡ is_le (order (by (get_or a (h - 1) 0)) (by (get_or a h 0))) → r ≡ true → Sorted key a a
   unfolding Sorted
   goes_on_sorted e f r er t =
       let x : ℕ = get_or a (h - 1) 0 in
@@ -74,27 +68,21 @@ module _ (key : ℕ → List ℕ) (a : List ℕ) (h : ℕ) (z : 0 < h) (l : h < 
       (ap (rising by) (sym seam) ∙ rising_on by (take (h - 1) a) (drop h a) x i j f, λ p. refl)
 
 -- ---- the first half, copied to the room
-module _ (key : ℕ → List ℕ) (a room : List ℕ) (h : ℕ) (l : h < length a) (e : take (length (take h a)) room ≡ take h a) where
-  half : take h room ≡ take h a
-  half = rw (← part_length a h l) at e
+module _ (key : ℕ → List ℕ) (a half : List ℕ) (h : ℕ) (l : h < length a) (e : half ≡ take h a) where
+  half_length : length half ≡ h
+  half_length = ap length e ∙ length-take-le h a (omega arith)
 
-  half_length : length (take h room) ≡ h
-  half_length = ap length half ∙ sym (part_length a h l)
-
-  pub half_whole : h ≡ length (take h room)
-  half_whole = sym half_length
-
-  pub half_fits : length (take h room) ≤ length a
+  pub half_fits : length half ≤ length a
   half_fits = omega (arith, half_length)
 
-  pub half_rises : rising (with_place key) (take h a) ≡ true → rising (with_place key) (take h room) ≡ true
-  half_rises f = rw half f
+  pub half_rises : rising (with_place key) (take h a) ≡ true → rising (with_place key) half ≡ true
+  half_rises f = rw e f
 
-  pub other_rises : rising (with_place key) (drop h a) ≡ true → rising (with_place key) (drop (length (take h room)) a) ≡ true
+  pub other_rises : rising (with_place key) (drop h a) ≡ true → rising (with_place key) (drop (length half) a) ≡ true
   other_rises f = rw half_length f
 
-  pub halves_sorted : (b : List ℕ) → Sorted key (take h room ++ drop (length (take h room)) a) b → Sorted key a b
-  halves_sorted b f = rw (half_length, half, take-append-drop h a) at f
+  pub halves_sorted : (b : List ℕ) → Sorted key (half ++ drop (length half) a) b → Sorted key a b
+  halves_sorted b f = rw (half_length, e, take-append-drop h a) at f
 
 -- ---- one position or none
 pub short_sorted : (key : ℕ → List ℕ) (a : List ℕ) → length a < 2 → Sorted key a a

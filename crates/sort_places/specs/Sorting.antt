@@ -2,7 +2,8 @@
 -- Assumes nothing.
 use Rattle.std.specs.Prelude.{ℕ, ◌+◌, ◌≡◌, Bool, true, List, [], ◌∷◌}
 use Rattle.text_scan.specs.Choice.{pick, ◌and◌}
-use Rattle.sort_compare.specs.Order.{order, in_order}
+use Rattle.std.specs.Ordering.{is_le}
+use Rattle.sort_compare.specs.Order.{order}
 use Rattle.sort_compare.specs.Fields.{coded}
 
 -- how many of the positions have the property
@@ -17,7 +18,7 @@ Rearranged bs cs = (p : ℕ → Bool) → count p bs ≡ count p cs
 -- b is not after the first of the others
 abbrev pub leads : (ℕ → List ℕ) → ℕ → List ℕ → Bool
 leads key b [] = true
-leads key b (c ∷ cs) = in_order (order (key b) (key c))
+leads key b (c ∷ cs) = is_le (order (key b) (key c))
 
 -- none is after the next
 unfoldable pub rising : (ℕ → List ℕ) → List ℕ → Bool

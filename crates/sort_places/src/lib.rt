@@ -3,36 +3,21 @@
 #![tactic(auto)]
 
 ghost use Rattle.std.specs.Prelude.{◌≡◌, true, ◌++◌, ◌*◌, ◌<◌, ◌≤◌, length, take, drop};
-ghost use Rattle.sort_compare.specs.Order.{order, in_order};
+ghost use Rattle.std.specs.Ordering.{is_le};
+ghost use Rattle.sort_compare.specs.Order.{order};
 ghost use Rattle.sort_compare.specs.Keys.{key_at};
 ghost use Rattle.sort_places.specs.Sorting.{with_place, rising, Sorted};
 
-use sort_compare::{By, Order};
-
-// Copies all numbers to the front of a run.
-fn copy(from: &[u32], to: &mut [u32])
-    requires { length from.now ≤ length to.old }
-    ensures { take (length from.now) to.new ≡ from.now }
-{
-    let mut i = 0;
-    while i < from.len() {
-        to[i] = from[i];
-        i += 1;
-    }
-}
+use sort_compare::By;
 
 // Whether the position x is not after y.
 fn is_in_order(by: By, s: &[u8], x: u32, y: u32) -> bool
-    ensures { result ≡ in_order (order (with_place (key_at by s.now) x) (with_place (key_at by s.now) y)) }
+    ensures { result ≡ is_le (order (with_place (key_at by s.now) x) (with_place (key_at by s.now) y)) }
 {
-    match sort_compare::compare(by, s, x, y) {
-        Order::Less => true,
-        Order::Same => x <= y,
-        Order::More => false,
-    }
+    sort_compare::compare(by, s, x, y).then(x.cmp(&y)).is_le()
 }
 
-// Merges the positions of `left` with those of `a` behind as many places, into `a`.
+// Merges the positions of `left` with those of `a` behind as many places, into `a`. Not a `for`: the keys say which of the two goes on.
 fn merge(by: By, s: &[u8], left: &[u32], a: &mut [u32])
     requires { (length left.now ≤ length a.old) × (rising (with_place (key_at by s.now)) left.now ≡ true) × (rising (with_place (key_at by s.now)) (drop (length left.now) a.old) ≡ true) }
     ensures { Sorted (key_at by s.now) (left.now ++ drop (length left.now) a.old) a.new }
@@ -41,22 +26,13 @@ fn merge(by: By, s: &[u8], left: &[u32], a: &mut [u32])
     let mut j = left.len();
     let mut k = 0;
     while i < left.len() {
-        let x = left[i];
-        if a.len() <= j {
-            a[k] = x;
+        if a.len() <= j || is_in_order(by, s, left[i], a[j]) {
+            a[k] = left[i];
             i += 1;
-            k += 1;
-            continue;
+        } else {
+            a[k] = a[j];
+            j += 1;
         }
-        let y = a[j];
-        if is_in_order(by, s, x, y) {
-            a[k] = x;
-            i += 1;
-            k += 1;
-            continue;
-        }
-        a[k] = y;
-        j += 1;
         k += 1;
     }
 }
@@ -70,8 +46,9 @@ fn merge_halves(by: By, s: &[u8], a: &mut [u32], h: usize, room: &mut [u32])
     if is_in_order(by, s, a[h - 1], a[h]) {
         return;
     }
-    copy(&a[..h], room);
-    merge(by, s, &room[..h], a);
+    let left = &mut room[..h];
+    left.copy_from_slice(&a[..h]);
+    merge(by, s, left, a);
 }
 
 // Sorts positions, with room for half of them.

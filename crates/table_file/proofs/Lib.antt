@@ -1,4 +1,4 @@
 pub mod Lines
 pub mod Counts
-pub mod Sections
+pub mod Reading
 pub mod Decided

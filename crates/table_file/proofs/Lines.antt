@@ -8,6 +8,7 @@ use native.Mathlib.Omega.{arith}
 use borrow.Author.Tests.{eq-eqb, ne_eqb, le-leb, lt-leb}
 use lib.Dec.{eqb, ltb}
 use lib.ListN.{length, take, drop}
+use Rattle.std.specs.Prelude.{Option, Some, None}
 use Rattle.text_scan.specs.Choice.{pick, ◌and◌}
 use Rattle.text_numbers.specs.Numbers.{version_of}
 use Rattle.xml_reader.specs.Limits.{row_limit}
@@ -15,21 +16,17 @@ use Rattle.table_lines.specs.Lines.{line_end, line_at, field, fields_of, are_fie
 use Rattle.table_file.specs.declared.Kind.{Kind}
 use Rattle.table_file.specs.Accepted.{is_of, is_row}
 
--- a number that is 0 where a test fails, against one that is not 0
-same : (t : Bool) (m k : ℕ) → eqb 0 k ≡ false → eqb (pick t m 0) k ≡ t and eqb m k
-same true m k z = refl
-same false m k z = z
+-- the fields are counted where they are all right
+all_right : (t : Bool) (m n : ℕ) → pick t (Some m) None ≡ Some n → (t ≡ true) × (m ≡ n)
+all_right true m n e = (refl, cc)
+all_right false m n e = absurd (let z : ◌≡◌ {A = ℕ} 0 1 = cc in omega arith)
 
-tested : (t x : Bool) (m : ℕ) → (pick t m 0 ≡ 5 → ⊥) → false ≡ t and eqb m 5 and x
-tested true x m h = rw (ne_eqb m 5 h)
-tested false x m h = refl
-
-passed : (t x : Bool) (m : ℕ) → pick t m 0 ≡ 5 → x ≡ t and eqb m 5 and x
-passed true x m e = rw (eq-eqb m 5 e)
-passed false x m e = absurd (omega arith)
+some_wrong : (t : Bool) (m : ℕ) → pick t (Some m) None ≡ None → t ≡ false
+some_wrong true m e = absurd (let z : ◌≡◌ {A = ℕ} 0 1 = cc in omega arith)
+some_wrong false m e = refl
 
 -- the fields of a line, told of the part that it is
-pub count_of : (s : List ℕ) (i e n : ℕ) → e ≡ line_end s i → n ≡ field_count (line_at s i) → n ≡ field_count (take (e - i) (drop i s))
+pub count_of : (s : List ℕ) (i e : ℕ) (n : Option ℕ) → e ≡ line_end s i → n ≡ field_count (line_at s i) → n ≡ field_count (take (e - i) (drop i s))
 count_of s i e n q f = rw q f
 
 module _ (kind : Kind) (line : List ℕ) where
@@ -37,24 +34,32 @@ module _ (kind : Kind) (line : List ℕ) where
   unfolding is_row
   too_long h = rw (lt-leb (length line) row_limit h)
 
-  module _ (h : length line ≤ row_limit) (n : ℕ) (e : n ≡ field_count line) where
-    pub of_three : kind ≡ Kind.CodeList → eqb n 3 ≡ is_row kind line
-    unfolding is_row is_of field_count
-    of_three k = rw (e, k, le-leb (length line) row_limit h) (same (are_fields (fields_of line)) (length (fields_of line)) 3 refl)
+  module _ (h : length line ≤ row_limit) (f : Option ℕ) (e : f ≡ field_count line) where
+    pub wrong_fields : f ≡ None → false ≡ is_row kind line
+    unfolding is_row field_count
+    wrong_fields g = rw (le-leb (length line) row_limit h, some_wrong (are_fields (fields_of line)) (length (fields_of line)) (sym e ∙ g))
 
-    pub of_two : kind ≡ Kind.Register → eqb n 2 ≡ is_row kind line
-    unfolding is_row is_of field_count
-    of_two k = rw (e, k, le-leb (length line) row_limit h) (same (are_fields (fields_of line)) (length (fields_of line)) 2 refl)
+    module _ (n : ℕ) (g : f ≡ Some n) where
+      right : (are_fields (fields_of line) ≡ true) × (length (fields_of line) ≡ n)
+      unfolding field_count
+      right = all_right (are_fields (fields_of line)) (length (fields_of line)) n (sym e ∙ g)
 
-    module _ (k : kind ≡ Kind.History) where
-      pub not_five : (n ≡ 5 → ⊥) → false ≡ is_row kind line
-      unfolding is_row is_of field_count
-      not_five g =
-          rw (k, le-leb (length line) row_limit h)
-          (tested (are_fields (fields_of line)) (ltb 0 (version_of (field (fields_of line) 2))) (length (fields_of line)) (λ p. g (e ∙ p)))
+      is_it : is_of kind (fields_of line) ≡ is_row kind line
+      unfolding is_row
+      is_it = rw (le-leb (length line) row_limit h, right.0)
 
-      pub of_five : n ≡ 5 → (f : List ℕ) (v : ℕ) → f ≡ field (fields_of line) 2 → v ≡ version_of f → ltb 0 v ≡ is_row kind line
-      unfolding is_row is_of field_count
-      of_five g f v p q =
-          rw (k, le-leb (length line) row_limit h, q, p)
-          (passed (are_fields (fields_of line)) (ltb 0 (version_of (field (fields_of line) 2))) (length (fields_of line)) (sym e ∙ g))
+      by : (t : Bool) → is_of kind (fields_of line) ≡ t → t ≡ is_row kind line
+      by t p = sym p ∙ is_it
+
+      pub of_three : kind ≡ Kind.CodeList → eqb n 3 ≡ is_row kind line
+      of_three k = by (eqb n 3) (unfold is_of in rw (k, right.1))
+
+      pub of_two : kind ≡ Kind.Register → eqb n 2 ≡ is_row kind line
+      of_two k = by (eqb n 2) (unfold is_of in rw (k, right.1))
+
+      module _ (k : kind ≡ Kind.History) where
+        pub not_five : (n ≡ 5 → ⊥) → eqb n 5 ≡ is_row kind line
+        not_five p = by (eqb n 5) (unfold is_of in rw (k, right.1, ne_eqb n 5 p))
+
+        pub of_five : n ≡ 5 → (x : List ℕ) (v : ℕ) → x ≡ field (fields_of line) 2 → v ≡ version_of x → ltb 0 v ≡ is_row kind line
+        of_five p x v q r = by (ltb 0 v) (unfold is_of in rw (k, right.1, p, r, q))

@@ -3,7 +3,7 @@
 
 ghost use Rattle.std.specs.Prelude.{◌≡◌};
 ghost use Rattle.table_lines.specs.Lines.{field_count};
-ghost use Rattle.table_file.specs.Accepted.{is_row, count_of, rows_end, section_at, section_refused, accepted};
+ghost use Rattle.table_file.specs.Accepted.{is_row, count_of, rows_end, section_at, accepted};
 
 use xml_reader::Reader;
 
@@ -15,193 +15,130 @@ pub enum Kind {
     History,
 }
 
-// What a count line says.
+// The rows of a section: the place of the first, and their count.
 #[derive(Clone, Copy)]
-pub enum Counted {
-    Rows(usize),
-    Bad,
+pub struct Rows {
+    pub first: usize,
+    pub count: usize,
 }
 
-// The place after the rows of a section, or that of refusal 4.
+// A section: its rows, and the place after them.
 #[derive(Clone, Copy)]
-pub enum Ended {
-    After(usize),
-    Refused(usize),
+pub struct Section {
+    pub rows: Rows,
+    pub after: usize,
 }
 
-// A section: the place of its first row, the count of its rows, and the place after them; or the place of refusal 4.
+// The rows of the three sections.
 #[derive(Clone, Copy)]
-pub enum Section {
-    Rows {
-        first: usize,
-        count: usize,
-        after: usize,
-    },
-    Refused(usize),
+pub struct Sections {
+    pub codes: Rows,
+    pub names: Rows,
+    pub history: Rows,
 }
 
-// The place and the count of each section's rows, or the place of refusal 4.
+// Why a file is refused: the first bad line, or what follows the last section, by its place.
 #[derive(Clone, Copy)]
-pub enum Accepted {
-    Tables {
-        codes: usize,
-        codes_count: usize,
-        names: usize,
-        names_count: usize,
-        history: usize,
-        history_count: usize,
-    },
-    Refused(usize),
+pub struct BadLine {
+    pub place: usize,
 }
 
-// Whether a line with the field count n is a row of a section.
-fn is_row(kind: Kind, line: &[u8], n: usize) -> bool
-    requires { n ≡ field_count line.now }
+// Whether a line with these fields is a row of a section.
+fn is_row(kind: Kind, line: &[u8], fields: Option<usize>) -> bool
+    requires { fields ≡ field_count line.now }
     ensures { result ≡ is_row kind line.now }
 {
     if Reader::ROW < line.len() {
         return false;
     }
+    let Some(n) = fields else {
+        return false;
+    };
     match kind {
         Kind::CodeList => n == 3,
         Kind::Register => n == 2,
-        Kind::History => {
-            if n != 5 {
-                return false;
-            }
-            0 < text_numbers::version(table_lines::field(line, 2))
-        }
+        Kind::History => n == 5 && 0 < text_numbers::version(table_lines::field(line, 2)),
     }
 }
 
 // The count that a line says.
-fn read_count(line: &[u8]) -> Counted
+fn read_count(line: &[u8]) -> Option<usize>
     ensures { result ≡ count_of line.now }
 {
-    if line.len() == 0 {
-        return Counted::Bad;
+    if line.is_empty() {
+        return None;
     }
-    if line[0] == b'0' {
-        if line.len() == 1 {
-            return Counted::Rows(0);
-        }
-        return Counted::Bad;
+    if line[0] == b'0' && line.len() != 1 {
+        return None;
     }
     let mut v: usize = 0;
-    let mut i = 0;
-    while i < line.len() {
-        if text_scan::is_digit(line[i]) {
-            v = v * 10 + (line[i] - b'0') as usize;
+    for b in line {
+        if text_scan::is_digit(*b) {
+            v = v * 10 + usize::from(*b - b'0');
             if Reader::ROWS < v {
-                return Counted::Bad;
+                return None;
             }
-            i += 1;
             continue;
         }
-        return Counted::Bad;
+        return None;
     }
-    Counted::Rows(v)
+    Some(v)
 }
 
 // Where n rows from the line at `at` on end.
-fn rows_end(kind: Kind, s: &[u8], at: usize, n: usize) -> Ended
+fn rows_end(kind: Kind, s: &[u8], at: usize, n: usize) -> Result<usize, BadLine>
     ensures { result ≡ rows_end kind s.now at n }
 {
     let mut i = at;
-    let mut left = n;
-    while 0 < left {
+    for _ in 0..n {
         let line = table_lines::line_at(s, i);
         let e = line.end;
         if s.len() <= e {
-            return Ended::Refused(s.len());
+            return Err(BadLine { place: s.len() });
         }
         if is_row(kind, &s[i..e], line.fields) {
             i = e + 1;
-            left -= 1;
             continue;
         }
-        return Ended::Refused(i);
+        return Err(BadLine { place: i });
     }
-    Ended::After(i)
+    Ok(i)
 }
 
 // The section whose count stands at `at`.
-fn section_at(kind: Kind, s: &[u8], at: usize) -> Section
+fn section_at(kind: Kind, s: &[u8], at: usize) -> Result<Section, BadLine>
     ensures { result ≡ section_at kind s.now at }
 {
     let e = table_lines::line_end(s, at);
     if s.len() <= e {
-        return Section::Refused(s.len());
+        return Err(BadLine { place: s.len() });
     }
-    let counted = read_count(&s[at..e]);
-    let Counted::Rows(count) = counted else {
-        return Section::Refused(at);
+    let Some(count) = read_count(&s[at..e]) else {
+        return Err(BadLine { place: at });
     };
     let first = e + 1;
-    match rows_end(kind, s, first, count) {
-        Ended::After(after) => Section::Rows {
-            first,
-            count,
-            after,
-        },
-        Ended::Refused(place) => Section::Refused(place),
-    }
-}
-
-// The refusal where a section is refused, or where something follows the last.
-fn refusal(section: Section) -> Accepted
-    ensures { result ≡ section_refused section }
-{
-    match section {
-        Section::Refused(place) => Accepted::Refused(place),
-        Section::Rows {
-            first: _,
-            count: _,
-            after,
-        } => Accepted::Refused(after),
-    }
+    let after = rows_end(kind, s, first, count)?;
+    Ok(Section {
+        rows: Rows { first, count },
+        after,
+    })
 }
 
 // What the tables file is: where the rows of each section stand, or refusal 4.
-pub fn accept(s: &[u8]) -> Accepted
+pub fn accept(s: &[u8]) -> Result<Sections, BadLine>
     ensures { result ≡ accepted s.now }
 {
-    let code_list = section_at(Kind::CodeList, s, 0);
-    let Section::Rows {
-        first: codes,
-        count: codes_count,
-        after: i,
-    } = code_list
-    else {
-        return refusal(code_list);
-    };
-    let register = section_at(Kind::Register, s, i);
-    let Section::Rows {
-        first: names,
-        count: names_count,
-        after: j,
-    } = register
-    else {
-        return refusal(register);
-    };
-    let last = section_at(Kind::History, s, j);
-    let Section::Rows {
-        first: history,
-        count: history_count,
-        after: k,
-    } = last
-    else {
-        return refusal(last);
-    };
-    if k != s.len() {
-        return Accepted::Refused(k);
+    let codes = section_at(Kind::CodeList, s, 0)?;
+    let names = section_at(Kind::Register, s, codes.after)?;
+    let history = section_at(Kind::History, s, names.after)?;
+    if history.after != s.len() {
+        return Err(BadLine {
+            place: history.after,
+        });
     }
-    Accepted::Tables {
-        codes,
-        codes_count,
-        names,
-        names_count,
-        history,
-        history_count,
-    }
+    Ok(Sections {
+        codes: codes.rows,
+        names: names.rows,
+        history: history.rows,
+    })
 }

@@ -68,37 +68,45 @@ module _ (q : Lookup) (keeps : Row → Bool) (s : List ℕ) where
       pub told : places_at q keeps s at count ≡ take n run ++ places_at q keeps s i left
       pub behind : drop n run ≡ drop n run₀
 
-    pub collect_starts : Collecting run₀ 0 at count
-    collect_starts = record { told = refl; behind = refl }
+    pub collect_starts : Collecting run₀ 0 at (count - 0)
+    collect_starts =
+        let z : count - 0 ≡ count = omega arith in
+        rw z record { told = refl; behind = refl }
 
-    module _ (run : List ℕ) (n i left : ℕ) (l : Collecting run n i left) (u : length run ≡ length run₀) (v : count ≤ length run₀) (w : n + left ≤ count) where
+    module _ (run : List ℕ) (n i k : ℕ) (l : Collecting run n i (count - k)) (u : length run ≡ length run₀) (v : count ≤ length run₀) (w : n ≤ k) where
       abbrev Ends : Type 0
       Ends = (n ≤ count) × (n ≡ length (places_at q keeps s at count)) × (run ≡ places_at q keeps s at count ++ drop n run₀)
 
-      ends : places_at q keeps s i left ≡ [] → Ends
-      ends f =
+      ends : n ≤ count → places_at q keeps s i (count - k) ≡ [] → Ends
+      ends o f =
           let e : places_at q keeps s at count ≡ take n run = l.told ∙ rw f (append-nil (take n run)) in
           (omega arith, rw e (sym (length-take-le n run (omega arith))), rw (e, ← l.behind) (sym (take-append-drop n run)))
 
-      pub collect_over : left ≤ 0 → Ends
-      collect_over h = ends (none_left i left h)
+      pub collect_over : count ≤ k → k ≤ count → Ends
+      collect_over h m = ends (omega arith) (none_left i (count - k) (omega arith))
 
-      module _ (h : 0 < left) where
+      module _ (h : k < count) where
+        left : 0 < count - k
+        left = omega arith
+
+        one_less : count - k - 1 ≡ count - (k + 1)
+        one_less = omega arith
+
         pub collect_past : length s ≤ i → Ends
-        collect_past g = ends (past_end i left h g)
+        collect_past g = ends (omega arith) (past_end i (count - k) left g)
 
         module _ (g : i < length s) (e : ℕ) (f : e ≡ line_end s i) (t : Bool) (r : t ≡ keeps (fields_of (take (e - i) (drop i s)))) where
-          pub collect_passes : t ≡ false → Collecting run n (e + 1) (left - 1)
+          pub collect_passes : t ≡ false → Collecting run n (e + 1) (count - (k + 1))
           collect_passes z =
-              let a : places_at q keeps s i left ≡ places_at q keeps s (e + 1) (left - 1) = next_place i left h g e f t r ∙ rw z in
+              let a : places_at q keeps s i (count - k) ≡ places_at q keeps s (e + 1) (count - (k + 1)) = rw one_less at (next_place i (count - k) left g e f t r) ∙ rw z in
               record { told = l.told ∙ rw a; behind = l.behind }
 
-          pub collect_puts : t ≡ true → (p : ℕ) → p ≡ key_place q s i → Collecting (set run n p) (n + 1) (e + 1) (left - 1)
+          pub collect_puts : t ≡ true → (p : ℕ) → p ≡ key_place q s i → Collecting (set run n p) (n + 1) (e + 1) (count - (k + 1))
           collect_puts z p j =
               let m : n < length run = omega arith in
               let b : n < n + 1 = omega arith in
-              let a : places_at q keeps s i left ≡ p ∷ places_at q keeps s (e + 1) (left - 1) = next_place i left h g e f t r ∙ rw (z, ← j) in
+              let a : places_at q keeps s i (count - k) ≡ p ∷ places_at q keeps s (e + 1) (count - (k + 1)) = rw one_less at (next_place i (count - k) left g e f t r) ∙ rw (z, ← j) in
               record {
-                told = l.told ∙ rw (a, add-one n, take-suc-set run n p m) (sym (append_snoc (take n run) p (places_at q keeps s (e + 1) (left - 1))));
+                told = l.told ∙ rw (a, add-one n, take-suc-set run n p m) (sym (append_snoc (take n run) p (places_at q keeps s (e + 1) (count - (k + 1)))));
                 behind = drop-set-lt (n + 1) run n p b ∙ sym (drop-drop 1 n run) ∙ ap (drop 1) l.behind ∙ drop-drop 1 n run₀;
               }

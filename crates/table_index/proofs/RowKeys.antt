@@ -14,7 +14,7 @@ use Rattle.text_scan.proofs.Tests.{never}
 use Rattle.table_lines.specs.Lines.{Row, other, is_tab, field, fields_of, line_at, front}
 use Rattle.table_lines.proofs.Runs.{before}
 use Rattle.table_lines.proofs.Fields.{first_more, later_more}
-use Rattle.sort_compare.specs.Fields.{is_feed, front_field, after_field, shown, skip_place, fields_from, coded, row_key}
+use Rattle.sort_compare.specs.Fields.{is_feed, front_field, after_field, shown, skip_place, fields_from, row_key}
 use Rattle.sort_compare.specs.Keys.{key_at}
 use Rattle.sort_compare.proofs.Skipping.{drop_skip, skip_low}
 use Rattle.table_index.specs.declared.Lookup.{Lookup}

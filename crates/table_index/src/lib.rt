@@ -7,9 +7,10 @@ ghost use Rattle.xml_reader.specs.Limits.{rows_limit};
 ghost use Rattle.table_lines.specs.Lines.{fields_of};
 ghost use Rattle.sort_compare.specs.Keys.{key_at};
 ghost use Rattle.sort_places.specs.Sorting.{Sorted};
-ghost use Rattle.table_index.specs.Indexed.{by_of, keeps_row, key_place, places_at, IndexLeft, Room};
+ghost use Rattle.table_index.specs.Indexed.{asks, by_of, keeps_row, key_place, places_at, IndexLeft, Room};
 
 use sort_compare::{By, skip};
+use table_rows::Question;
 
 // The questions whose rows are indexed.
 #[derive(Clone, Copy)]
@@ -17,6 +18,19 @@ pub enum Lookup {
     Code,
     Name,
     KeyElsewhere,
+}
+
+// As questions of any row.
+impl From<Lookup> for Question {
+    ghost from_gives = { λ q r. r ≡ asks q };
+
+    fn from(q: Lookup) -> Question {
+        match q {
+            Lookup::Code => Question::Code,
+            Lookup::Name => Question::Name,
+            Lookup::KeyElsewhere => Question::KeyElsewhere,
+        }
+    }
 }
 
 // What the rows that are asked for are ordered by.
@@ -34,10 +48,7 @@ fn by(q: Lookup) -> By
 fn is_elsewhere(line: &[u8], a: &[u8], c: &[u8]) -> bool
     ensures { result ≡ keeps_row Lookup.KeyElsewhere a.now c.now (fields_of line.now) }
 {
-    if table_rows::field_is(line, 0, a) {
-        return !table_rows::field_is(line, 1, c);
-    }
-    false
+    table_rows::field_is(line, 0, a) && !table_rows::field_is(line, 1, c)
 }
 
 // Whether a row is kept.
@@ -45,8 +56,7 @@ fn keeps(q: Lookup, line: &[u8], a: &[u8], c: &[u8]) -> bool
     ensures { result ≡ keeps_row q a.now c.now (fields_of line.now) }
 {
     match q {
-        Lookup::Code => true,
-        Lookup::Name => true,
+        Lookup::Code | Lookup::Name => true,
         Lookup::KeyElsewhere => is_elsewhere(line, a, c),
     }
 }
@@ -56,8 +66,7 @@ fn key_place(q: Lookup, s: &[u8], i: usize) -> usize
     ensures { result ≡ key_place q s.now i }
 {
     match q {
-        Lookup::Code => i,
-        Lookup::Name => i,
+        Lookup::Code | Lookup::Name => i,
         Lookup::KeyElsewhere => skip(s, skip(s, skip(s, skip(s, i)))),
     }
 }
@@ -77,18 +86,14 @@ fn collect(
 {
     let mut n = 0;
     let mut i = at;
-    let mut left = count;
-    while 0 < left {
+    for _ in 0..count {
         if s.len() <= i {
             return n;
         }
         let e = table_lines::line_end(s, i);
-        left -= 1;
         if keeps(q, &s[i..e], a, c) {
             run[n] = key_place(q, s, i) as u32;
             n += 1;
-            i = e + 1;
-            continue;
         }
         i = e + 1;
     }

@@ -7,17 +7,18 @@ use Prim.Native.Nat.{ℕ}
 use native.Mathlib.Omega.{arith}
 use borrow.Author.Tests.{eq-eqb, eqb-true}
 use lib.Dec.{eqb}
-use lib.ListN.{length, length-drop}
+use lib.ListN.{length, drop, length-drop}
 use lib.Seq.{drop-length}
 use Rattle.text_scan.specs.Choice.{pick, ◌and◌}
 use Rattle.text_scan.proofs.Tests.{never, and_left, and_right}
 use Rattle.table_lines.specs.Lines.{rows_at}
 use Rattle.table_file.specs.declared.Kind.{Kind}
 use Rattle.table_file.specs.declared.Section.{Section}
-use Rattle.table_file.specs.declared.Accepted.{Accepted}
-use Rattle.table_file.specs.Accepted.{section_at, after_code_list, after_register, after_history, accepted, Tables, tables_in, tables_of, is_tables, is_accepted}
+use Rattle.table_file.specs.declared.BadLine.{BadLine}
+use Rattle.std.specs.Prelude.{Result, Ok, Err}
+use Rattle.table_file.specs.Accepted.{refused_at, rows_in, section_at, after_code_list, after_register, after_history, accepted, Tables, tables_in, tables_of, is_tables, is_accepted}
 use Rattle.table_join.specs.Written.{written_section, written, is_good_section, is_good}
-use Rattle.table_join.proofs.Sections.{Stands, section_written, Came, section_read}
+use Rattle.table_join.proofs.Sections.{placed, Stands, section_written, Came, section_read}
 
 -- ---- written, and read again
 module _ (t : Tables) (g : is_good t ≡ true) where
@@ -51,7 +52,11 @@ module _ (t : Tables) (g : is_good t ≡ true) where
   ends : three.after ≡ length (written t)
   ends = omega (arith, three.inside, length-drop three.after (written t), ap length three.behind)
 
-  told : accepted (written t) ≡ Accepted.Tables one.first (length t.codes) two.first (length t.names) three.first (length t.history)
+  told : accepted (written t) ≡ Ok (record {
+    codes = record { first = one.first; count = length t.codes };
+    names = record { first = two.first; count = length t.names };
+    history = record { first = three.first; count = length t.history };
+  })
   unfolding accepted
   told = rw (one.section, two.section, three.section, eq-eqb three.after (length (written t)) ends)
 
@@ -66,48 +71,32 @@ module _ (t : Tables) (g : is_good t ≡ true) where
 -- ---- read, and written again
 -- where the sections of an accepted file stand
 record Parts (s : List ℕ) : Type 0 where
-  pub codes : ℕ
-  pub codes_count : ℕ
-  pub names_at : ℕ
-  pub names : ℕ
-  pub names_count : ℕ
-  pub history_at : ℕ
-  pub history : ℕ
-  pub history_count : ℕ
-  pub first : section_at Kind.CodeList s 0 ≡ Section.Rows codes codes_count names_at
-  pub second : section_at Kind.Register s names_at ≡ Section.Rows names names_count history_at
-  pub third : section_at Kind.History s history_at ≡ Section.Rows history history_count (length s)
+  pub codes : Section
+  pub names : Section
+  pub history : Section
+  pub first : section_at Kind.CodeList s 0 ≡ Ok codes
+  pub second : section_at Kind.Register s codes.after ≡ Ok names
+  pub third : section_at Kind.History s names.after ≡ Ok history
+  pub whole : history.after ≡ length s
 
 module _ (s : List ℕ) where
-  in_third : (c cs i n ns j : ℕ) → section_at Kind.CodeList s 0 ≡ Section.Rows c cs i → section_at Kind.Register s i ≡ Section.Rows n ns j
-      → (z : Section) → section_at Kind.History s j ≡ z → is_tables (after_history s c cs n ns z) ≡ true → Parts s
-  in_third c cs i n ns j p q (Section.Refused k) r e = never (sym e)
-  in_third c cs i n ns j p q (Section.Rows h hs k) r e = go (eqb k (length s)) refl e
+  in_third : (c r : Section) → section_at Kind.CodeList s 0 ≡ Ok c → section_at Kind.Register s c.after ≡ Ok r
+      → (z : Result Section BadLine) → section_at Kind.History s r.after ≡ z → is_tables (after_history s c r z) ≡ true → Parts s
+  in_third c r p q (Err k) g e = never (sym e)
+  in_third c r p q (Ok h) g e = go (eqb h.after (length s)) refl e
     where
-      go : (t : Bool) → eqb k (length s) ≡ t → is_tables (pick t (Accepted.Tables c cs n ns h hs) (Accepted.Refused k)) ≡ true → Parts s
-      go true f d = record {
-        codes = c;
-        codes_count = cs;
-        names_at = i;
-        names = n;
-        names_count = ns;
-        history_at = j;
-        history = h;
-        history_count = hs;
-        first = p;
-        second = q;
-        third = rw (← eqb-true k (length s) f) r;
-      }
+      go : (t : Bool) → eqb h.after (length s) ≡ t → is_tables (pick t (Ok (record { codes = c.rows; names = r.rows; history = h.rows })) (Err (refused_at h.after))) ≡ true → Parts s
+      go true f d = record { codes = c; names = r; history = h; first = p; second = q; third = g; whole = eqb-true h.after (length s) f }
       go false f d = never (sym d)
 
-  in_second_lem : (c cs i : ℕ) → section_at Kind.CodeList s 0 ≡ Section.Rows c cs i
-      → (y : Section) → section_at Kind.Register s i ≡ y → is_tables (after_register s c cs y) ≡ true → Parts s
-  in_second_lem c cs i p (Section.Refused k) q e = never (sym e)
-  in_second_lem c cs i p (Section.Rows n ns j) q e = in_third c cs i n ns j p q (section_at Kind.History s j) refl e
+  in_second_lem : (c : Section) → section_at Kind.CodeList s 0 ≡ Ok c
+      → (y : Result Section BadLine) → section_at Kind.Register s c.after ≡ y → is_tables (after_register s c y) ≡ true → Parts s
+  in_second_lem c p (Err k) q e = never (sym e)
+  in_second_lem c p (Ok r) q e = in_third c r p q (section_at Kind.History s r.after) refl e
 
-  in_first_lem : (x : Section) → section_at Kind.CodeList s 0 ≡ x → is_tables (after_code_list s x) ≡ true → Parts s
-  in_first_lem (Section.Refused k) p e = never (sym e)
-  in_first_lem (Section.Rows c cs i) p e = in_second_lem c cs i p (section_at Kind.Register s i) refl e
+  in_first_lem : (x : Result Section BadLine) → section_at Kind.CodeList s 0 ≡ x → is_tables (after_code_list s x) ≡ true → Parts s
+  in_first_lem (Err k) p e = never (sym e)
+  in_first_lem (Ok c) p e = in_second_lem c p (section_at Kind.Register s c.after) refl e
 
   parts : is_accepted s ≡ true → Parts s
   unfolding is_accepted accepted
@@ -117,22 +106,22 @@ module _ (s : List ℕ) (e : is_accepted s ≡ true) where
   p : Parts s
   p = parts s e
 
-  told_accepted : accepted s ≡ Accepted.Tables p.codes p.codes_count p.names p.names_count p.history p.history_count
+  told_accepted : accepted s ≡ Ok (record { codes = p.codes.rows; names = p.names.rows; history = p.history.rows })
   unfolding accepted
-  told_accepted = rw (p.first, p.second, p.third, eq-eqb (length s) (length s) refl)
+  told_accepted = rw (p.first, p.second, p.third, eq-eqb p.history.after (length s) p.whole)
 
-  tables : tables_of s ≡ tables_in s (Accepted.Tables p.codes p.codes_count p.names p.names_count p.history p.history_count)
+  tables : tables_of s ≡ tables_in s (Ok (record { codes = p.codes.rows; names = p.names.rows; history = p.history.rows }))
   unfolding tables_of
   tables = rw told_accepted
 
-  codes_came : Came Kind.CodeList s 0 p.codes p.codes_count p.names_at
-  codes_came = section_read Kind.CodeList s 0 p.codes p.codes_count p.names_at p.first
+  codes_came : Came Kind.CodeList s 0 p.codes.rows.first p.codes.rows.count p.codes.after
+  codes_came = section_read Kind.CodeList s 0 p.codes.rows.first p.codes.rows.count p.codes.after p.first
 
-  names_came : Came Kind.Register s p.names_at p.names p.names_count p.history_at
-  names_came = section_read Kind.Register s p.names_at p.names p.names_count p.history_at p.second
+  names_came : Came Kind.Register s p.codes.after p.names.rows.first p.names.rows.count p.names.after
+  names_came = section_read Kind.Register s p.codes.after p.names.rows.first p.names.rows.count p.names.after p.second
 
-  history_came : Came Kind.History s p.history_at p.history p.history_count (length s)
-  history_came = section_read Kind.History s p.history_at p.history p.history_count (length s) p.third
+  history_came : Came Kind.History s p.names.after p.history.rows.first p.history.rows.count p.history.after
+  history_came = section_read Kind.History s p.names.after p.history.rows.first p.history.rows.count p.history.after p.third
 
   pub accepted_good : is_good (tables_of s) ≡ true
   unfolding is_good
@@ -144,9 +133,9 @@ module _ (s : List ℕ) (e : is_accepted s ≡ true) where
   accepted_written =
       rw tables
       (sym (codes_came.text
-      ∙ ap (λ (l : List ℕ). written_section (rows_at s p.codes p.codes_count) ++ l)
+      ∙ ap (λ (l : List ℕ). written_section (rows_in s p.codes.rows) ++ l)
       (names_came.text
-      ∙ ap (λ (l : List ℕ). written_section (rows_at s p.names p.names_count) ++ l)
+      ∙ ap (λ (l : List ℕ). written_section (rows_in s p.names.rows) ++ l)
       (history_came.text
-      ∙ ap (λ (l : List ℕ). written_section (rows_at s p.history p.history_count) ++ l) (drop-length s)
-      ∙ append-nil (written_section (rows_at s p.history p.history_count))))))
+      ∙ ap (λ (l : List ℕ). written_section (rows_in s p.history.rows) ++ l) (ap (λ (k : ℕ). drop k s) p.whole ∙ drop-length s)
+      ∙ append-nil (written_section (rows_in s p.history.rows))))))

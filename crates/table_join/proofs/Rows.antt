@@ -13,8 +13,8 @@ use Rattle.text_scan.proofs.Tests.{and_left, and_right}
 use Rattle.text_scan.proofs.Lists.{run_least}
 use Rattle.table_lines.specs.Lines.{Row, other, line_end, has_feed, line_at, fields_of, rows_at}
 use Rattle.table_file.specs.declared.Kind.{Kind}
-use Rattle.table_file.specs.declared.Ended.{Ended}
-use Rattle.table_file.specs.Accepted.{is_row, rows_end}
+use Rattle.std.specs.Prelude.{Ok, Err}
+use Rattle.table_file.specs.Accepted.{is_row, refused_at, rows_end}
 use Rattle.table_join.specs.Written.{line_of, written_rows, is_good_row, are_good_rows}
 use Rattle.table_join.proofs.Lists.{and_both}
 use Rattle.table_join.proofs.Fields.{line_written, good_plain, row_written, fields_written, good_some, line_read, row_read}
@@ -48,7 +48,7 @@ module _ (kind : Kind) (s : List ℕ) where
     long = omega (arith, ends_here, length-append (line_of row) (10 ∷ written_rows rows))
 
   pub rows_end_lem : (rows : List Row) (i : ℕ) (xs : List ℕ) → are_good_rows kind rows ≡ true → drop i s ≡ written_rows rows ++ xs
-      → rows_end kind s i (length rows) ≡ Ended.After (i + length (written_rows rows))
+      → rows_end kind s i (length rows) ≡ Ok (i + length (written_rows rows))
   unfolding are_good_rows rows_end
   rows_end_lem [] i xs g e =
       let z : i + length (written_rows []) ≡ i = unfold written_rows in omega arith in
@@ -97,7 +97,7 @@ module _ (kind : Kind) (s : List ℕ) where
         ∙ sym (append_assoc (line_at s i) (10 ∷ written_rows (rows_at s (line_end s i + 1) n)) (drop j s)));
   }
 
-  pub rows_read : (n i j : ℕ) → rows_end kind s i n ≡ Ended.After j → Read kind s i n j
+  pub rows_read : (n i j : ℕ) → rows_end kind s i n ≡ Ok j → Read kind s i n j
   unfolding rows_end rows_at are_good_rows written_rows
   rows_read zero i j e =
       let z : i ≡ j = cc in
@@ -105,8 +105,8 @@ module _ (kind : Kind) (s : List ℕ) where
   rows_read (suc n) i j e = go (has_feed s i) refl (is_row kind (line_at s i)) refl e (rows_read n (line_end s i + 1) j)
     where
       go : (t : Bool) → has_feed s i ≡ t → (u : Bool) → is_row kind (line_at s i) ≡ u
-          → pick t (pick u (rows_end kind s (line_end s i + 1) n) (Ended.Refused i)) (Ended.Refused (length s)) ≡ Ended.After j
-          → (rows_end kind s (line_end s i + 1) n ≡ Ended.After j → Read kind s (line_end s i + 1) n j)
+          → pick t (pick u (rows_end kind s (line_end s i + 1) n) (Err (refused_at i))) (Err (refused_at (length s))) ≡ Ok j
+          → (rows_end kind s (line_end s i + 1) n ≡ Ok j → Read kind s (line_end s i + 1) n j)
           → Read kind s i (suc n) j
       go true p true q f r = read_row n i j (ltb-true (line_end s i) (length s) p) q (r f)
       go true p false q f r = absurd (let z : ◌≡◌ {A = ℕ} 0 1 = cc in omega arith)

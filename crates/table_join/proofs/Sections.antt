@@ -16,10 +16,10 @@ use Rattle.text_numbers.specs.Numbers.{decimal_of}
 use Rattle.xml_reader.specs.Limits.{rows_limit}
 use Rattle.table_lines.specs.Lines.{Row, other, line_end, has_feed, line_at, rows_at}
 use Rattle.table_file.specs.declared.Kind.{Kind}
-use Rattle.table_file.specs.declared.Counted.{Counted}
-use Rattle.table_file.specs.declared.Ended.{Ended}
+use Rattle.std.specs.Prelude.{Option, Some, None, Result, Ok, Err}
 use Rattle.table_file.specs.declared.Section.{Section}
-use Rattle.table_file.specs.Accepted.{is_count, count_of, rows_end, rows_of, counted_at, section_at}
+use Rattle.table_file.specs.declared.BadLine.{BadLine}
+use Rattle.table_file.specs.Accepted.{is_count, count_of, refused_at, rows_end, rows_of, counted_at, section_at}
 use Rattle.table_join.specs.Written.{decimal, written_rows, written_section, are_good_rows, is_good_section}
 use Rattle.table_join.proofs.Lists.{and_both, every_weaker}
 use Rattle.table_join.proofs.Decimal.{value_written, digits_written, count_written, count_read, read_most}
@@ -35,15 +35,22 @@ digit_plain b e =
 count_plain : (n : ℕ) → every (other 10) (decimal n) ≡ true
 count_plain n = every_weaker is_digit (other 10) digit_plain (decimal n) (digits_written n)
 
-count_of_lem : (n : ℕ) → n ≤ rows_limit → count_of (decimal n) ≡ Counted.Rows n
+count_of_lem : (n : ℕ) → n ≤ rows_limit → count_of (decimal n) ≡ Some n
 unfolding count_of
 count_of_lem n h = rw (count_written n h, value_written n)
+
+-- a section by its numbers
+abbrev pub placed : ℕ → ℕ → ℕ → Section
+placed first count after = record { rows = record { first = first; count = count }; after = after }
+
+same_section : (x y : Section) → ◌≡◌ {A = Result Section BadLine} (Ok x) (Ok y) → x ≡ y
+same_section x y e = cc
 
 -- a section that stands at i, with xs behind it
 pub record Stands (kind : Kind) (s : List ℕ) (i : ℕ) (rows : List Row) (xs : List ℕ) : Type 0 where
   pub first : ℕ
   pub after : ℕ
-  pub section : section_at kind s i ≡ Section.Rows first (length rows) after
+  pub section : section_at kind s i ≡ Ok (placed first (length rows) after)
   pub read : rows_at s first (length rows) ≡ rows
   pub behind : drop after s ≡ xs
   pub inside : after ≤ length s
@@ -80,7 +87,7 @@ section_written kind s i rows xs g e = record {
     is : line_at s i ≡ line
     is = line_is s i line (written_rows rows ++ xs) here (count_plain (length rows))
 
-    section : section_at kind s i ≡ Section.Rows (line_end s i + 1) (length rows) (line_end s i + 1 + length (written_rows rows))
+    section : section_at kind s i ≡ Ok (placed (line_end s i + 1) (length rows) (line_end s i + 1 + length (written_rows rows)))
     section =
         unfold section_at in
         rw (lt-ltb (line_end s i) (length s) feed, is, count_of_lem (length rows) most, rows_end_lem kind s rows (line_end s i + 1) xs good next)
@@ -92,18 +99,18 @@ pub record Came (kind : Kind) (s : List ℕ) (i first count after : ℕ) : Type 
   pub text : drop i s ≡ written_section (rows_at s first count) ++ drop after s
 
 -- a line that says a count is that count
-count_said : (line : List ℕ) (n : ℕ) → count_of line ≡ Counted.Rows n → (n ≤ rows_limit) × (line ≡ decimal n)
+count_said : (line : List ℕ) (n : ℕ) → count_of line ≡ Some n → (n ≤ rows_limit) × (line ≡ decimal n)
 unfolding count_of
 count_said line n e = go (is_count line) refl e
   where
-    go : (t : Bool) → is_count line ≡ t → pick t (Counted.Rows (decimal_of line)) Counted.Bad ≡ Counted.Rows n → (n ≤ rows_limit) × (line ≡ decimal n)
+    go : (t : Bool) → is_count line ≡ t → pick t (Some (decimal_of line)) None ≡ Some n → (n ≤ rows_limit) × (line ≡ decimal n)
     go true q f =
         let v : decimal_of line ≡ n = cc in
         (omega (arith, read_most line q), sym (ap decimal (sym v) ∙ count_read line q))
     go false q f = absurd (let z : ◌≡◌ {A = ℕ} 0 1 = cc in omega arith)
 
 module _ (kind : Kind) (s : List ℕ) (i : ℕ) where
-  came : (n j : ℕ) → line_end s i < length s → count_of (line_at s i) ≡ Counted.Rows n → rows_end kind s (line_end s i + 1) n ≡ Ended.After j → Came kind s i (line_end s i + 1) n j
+  came : (n j : ℕ) → line_end s i < length s → count_of (line_at s i) ≡ Some n → rows_end kind s (line_end s i + 1) n ≡ Ok j → Came kind s i (line_end s i + 1) n j
   unfolding written_section
   came n j h c e =
       let r = rows_read kind s n (line_end s i + 1) j e in
@@ -118,25 +125,26 @@ module _ (kind : Kind) (s : List ℕ) (i : ℕ) where
             ∙ sym (append_assoc (line_at s i) (10 ∷ written_rows (rows_at s (line_end s i + 1) n)) (drop j s)));
       }
 
-  from_rows : (n : ℕ) (y : Ended) → rows_end kind s (line_end s i + 1) n ≡ y → line_end s i < length s → count_of (line_at s i) ≡ Counted.Rows n
-      → (first count after : ℕ) → rows_of (line_end s i + 1) n y ≡ Section.Rows first count after → Came kind s i first count after
-  from_rows n (Ended.After j) e h c first count after f =
-      let p : line_end s i + 1 ≡ first = cc in
-      let q : n ≡ count = cc in
-      let r : j ≡ after = cc in
+  from_rows : (n : ℕ) (y : Result ℕ BadLine) → rows_end kind s (line_end s i + 1) n ≡ y → line_end s i < length s → count_of (line_at s i) ≡ Some n
+      → (first count after : ℕ) → rows_of (line_end s i + 1) n y ≡ Ok (placed first count after) → Came kind s i first count after
+  from_rows n (Ok j) e h c first count after f =
+      let g = same_section (placed (line_end s i + 1) n j) (placed first count after) f in
+      let p : line_end s i + 1 ≡ first = ap (λ (x : Section). x.rows.first) g in
+      let q : n ≡ count = ap (λ (x : Section). x.rows.count) g in
+      let r : j ≡ after = ap (λ (x : Section). x.after) g in
       subst₃ (Came kind s i) p q r (came n j h c e)
-  from_rows n (Ended.Refused p) e h c first count after f = absurd (let z : ◌≡◌ {A = ℕ} 0 1 = cc in omega arith)
+  from_rows n (Err p) e h c first count after f = absurd (let z : ◌≡◌ {A = ℕ} 0 1 = cc in omega arith)
 
-  from_count : (x : Counted) → count_of (line_at s i) ≡ x → line_end s i < length s
-      → (first count after : ℕ) → counted_at kind s i x ≡ Section.Rows first count after → Came kind s i first count after
-  from_count (Counted.Rows n) c h first count after f = from_rows n (rows_end kind s (line_end s i + 1) n) refl h c first count after f
-  from_count Counted.Bad c h first count after f = absurd (let z : ◌≡◌ {A = ℕ} 0 1 = cc in omega arith)
+  from_count : (x : Option ℕ) → count_of (line_at s i) ≡ x → line_end s i < length s
+      → (first count after : ℕ) → counted_at kind s i x ≡ Ok (placed first count after) → Came kind s i first count after
+  from_count (Some n) c h first count after f = from_rows n (rows_end kind s (line_end s i + 1) n) refl h c first count after f
+  from_count None c h first count after f = absurd (let z : ◌≡◌ {A = ℕ} 0 1 = cc in omega arith)
 
-  pub section_read : (first count after : ℕ) → section_at kind s i ≡ Section.Rows first count after → Came kind s i first count after
+  pub section_read : (first count after : ℕ) → section_at kind s i ≡ Ok (placed first count after) → Came kind s i first count after
   unfolding section_at
   section_read first count after e = go (has_feed s i) refl e
     where
-      go : (t : Bool) → has_feed s i ≡ t → pick t (counted_at kind s i (count_of (line_at s i))) (Section.Refused (length s)) ≡ Section.Rows first count after
+      go : (t : Bool) → has_feed s i ≡ t → pick t (counted_at kind s i (count_of (line_at s i))) (Err (refused_at (length s))) ≡ Ok (placed first count after)
           → Came kind s i first count after
       go true q f = from_count (count_of (line_at s i)) refl (ltb-true (line_end s i) (length s) q) first count after f
       go false q f = absurd (let z : ◌≡◌ {A = ℕ} 0 1 = cc in omega arith)

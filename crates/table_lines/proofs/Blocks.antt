@@ -18,11 +18,11 @@ joined true u = refl
 joined false u = refl
 
 module _ (p : ℕ → Bool) (s : List ℕ) (i k : ℕ) (t : Bool) (e : t ≡ throughout p s i k) where
-  pub more : (t && p (get_or s (i + k) 0)) ≡ throughout p s i (k + 1)
+  pub more : (u : Bool) → u ≡ p (get_or s (i + k) 0) → (t && u) ≡ throughout p s i (k + 1)
   unfolding throughout
-  more =
+  more u q =
       let f : k + 1 ≡ suc k = omega arith in
-      rw (f, ← e) (joined t (p (get_or s (i + k) 0)))
+      rw (f, ← e, ← q) (joined t u)
 
   pub whole : (n : ℕ) → k ≤ n → n ≤ k → t ≡ throughout p s i n
   whole n h g =

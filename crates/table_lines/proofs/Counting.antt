@@ -9,6 +9,7 @@ use native.Mathlib.Omega.{arith}
 use borrow.Author.Tests.{ne_eqb, le-leb, lt-leb, ltb-true}
 use lib.Dec.{eqb, leb, ltb}
 use lib.ListN.{length, drop, get_or, drop_of_length-le}
+use Rattle.std.specs.Prelude.{Option, Some, None}
 use Rattle.text_scan.specs.Choice.{pick, ◌and◌}
 use Rattle.text_scan.specs.Lists.{every}
 use Rattle.text_scan.proofs.Within.{drop_here}
@@ -34,10 +35,10 @@ rest true fs = are_fields fs
 rest false [] = true
 rest false (f ∷ fs) = every (other 13) f and are_fields fs
 
-abbrev counted : ℕ → Bool → Row → ℕ
-counted n empty fs = pick (rest empty fs) (n + length fs) 0
+abbrev counted : ℕ → Bool → Row → Option ℕ
+counted n empty fs = pick (rest empty fs) (Some (n + length fs)) None
 
-returned : (n : ℕ) (empty : Bool) (fs : Row) → counted n empty (in_first 13 fs) ≡ 0
+returned : (n : ℕ) (empty : Bool) (fs : Row) → counted n empty (in_first 13 fs) ≡ None
 unfolding are_fields every
 returned n true [] = refl
 returned n true (f ∷ fs) = refl
@@ -77,12 +78,12 @@ starts s at = rw (before (other 10) at (drop at s), le-leb at at (omega arith), 
 
 module _ (s : List ℕ) (at n start i : ℕ) (l : Counting s at n start i) where
   module _ (h : i < length s) where
-    pub at_return : (f : ℕ) → f ≡ 0 → get_or s i 0 ≡ 13 → f ≡ field_count (line_at s at)
+    pub at_return : (f : Option ℕ) → f ≡ None → get_or s i 0 ≡ 13 → f ≡ field_count (line_at s at)
     unfolding fields_of
     at_return f z e =
         z ∙ sym (l ∙ rw (left_on s i h (λ p. absurd (omega arith)), e) (returned n (leb i start) (fields_of (left s (i + 1)))))
 
-    pub at_tab_empty : (f : ℕ) → f ≡ 0 → get_or s i 0 ≡ 9 → i ≤ start → f ≡ field_count (line_at s at)
+    pub at_tab_empty : (f : Option ℕ) → f ≡ None → get_or s i 0 ≡ 9 → i ≤ start → f ≡ field_count (line_at s at)
     unfolding fields_of are_fields
     at_tab_empty f z e g = z ∙ sym (l ∙ rw (left_on s i h (λ p. absurd (omega arith)), e, le-leb i start g))
 
@@ -103,26 +104,26 @@ module _ (s : List ℕ) (at n start i : ℕ) (l : Counting s at n start i) where
       at_above g = at_other (λ p. absurd (omega arith)) (λ p. absurd (omega arith)) (λ p. absurd (omega arith))
 
   module _ (h : left s i ≡ []) where
-    last_empty : i ≤ start → 0 ≡ field_count (line_at s at)
+    last_empty : i ≤ start → None ≡ field_count (line_at s at)
     unfolding fields_of are_fields
     last_empty f = sym (l ∙ rw (h, le-leb i start f))
 
-    last_field : start < i → n + 1 ≡ field_count (line_at s at)
+    last_field : start < i → Some (n + 1) ≡ field_count (line_at s at)
     unfolding fields_of are_fields every
     last_field f = sym (l ∙ rw (h, lt-leb i start f))
 
   module _ (h : length s ≤ i) where
-    pub end_empty : i ≤ start → 0 ≡ field_count (line_at s at)
+    pub end_empty : i ≤ start → None ≡ field_count (line_at s at)
     end_empty = last_empty (left_end s i h)
 
-    pub end_field : start < i → n + 1 ≡ field_count (line_at s at)
+    pub end_field : start < i → Some (n + 1) ≡ field_count (line_at s at)
     end_field = last_field (left_end s i h)
 
   module _ (h : i < length s) (e : get_or s i 0 ≡ 10) where
-    pub feed_empty : i ≤ start → 0 ≡ field_count (line_at s at)
+    pub feed_empty : i ≤ start → None ≡ field_count (line_at s at)
     feed_empty = last_empty (left_feed s i h e)
 
-    pub feed_field : start < i → n + 1 ≡ field_count (line_at s at)
+    pub feed_field : start < i → Some (n + 1) ≡ field_count (line_at s at)
     feed_field = last_field (left_feed s i h e)
 
 -- the same behind bytes that are above 13

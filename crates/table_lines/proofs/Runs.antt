@@ -5,7 +5,7 @@ use mathlib.Core.Bool.{Bool, true, false}
 use mathlib.Core.List.{List, [], ◌∷◌}
 use Prim.Native.Nat.{ℕ, suc, ◌+◌, ◌-◌, ◌*◌, ◌<◌, ◌≤◌, ◌^◌}
 use native.Mathlib.Omega.{arith}
-use borrow.Author.Tests.{eq-eqb, ne_eqb, lt-ltb, le-ltb, ltb-true}
+use borrow.Author.Tests.{eq-eqb, ne_eqb, ltb-true}
 use lib.Dec.{ltb}
 use lib.ListN.{length, take, get_or}
 use mir.Val.{Fits}
@@ -53,13 +53,6 @@ pub line_fits : (s : List ℕ) (i e : ℕ) → e ≡ line_end s i → i < length
 line_fits s i e p h g = omega (arith, line_within s i e p h)
 
 -- ---- up to a byte that is not above 13
-module _ (s : List ℕ) (at i : ℕ) (l : Run (ltb 13) s at i) (h : i < length s) where
-  pub plain_here : get_or s i 0 ≤ 13 → i ≡ plain_end s at
-  plain_here g = run_stops (ltb 13) s at i l false h (sym (le-ltb 13 (get_or s i 0) g)) refl
-
-  pub plain_on : 13 < get_or s i 0 → Run (ltb 13) s at (i + 1)
-  plain_on g = run_goes (ltb 13) s at i l true h (sym (lt-ltb 13 (get_or s i 0) g)) refl
-
 module _ (s : List ℕ) (i e : ℕ) (q : e ≡ plain_end s (i + 1)) where
   pub plain_least : (m : ℕ) → m ≤ i → m ≤ e
   plain_least m h = omega (arith, run_least (ltb 13) s (i + 1))

@@ -1,6 +1,6 @@
 -- Lines and their fields: a line ends in one line feed, and a tab parts two fields.
 -- Assumes nothing.
-use Rattle.std.specs.Prelude.{ℕ, zero, suc, ◌+◌, ◌-◌, Bool, true, false, List, [], ◌∷◌, eqb, ltb, length, take, drop, get_or}
+use Rattle.std.specs.Prelude.{ℕ, zero, suc, ◌+◌, ◌-◌, Bool, true, false, Option, Some, None, List, [], ◌∷◌, eqb, ltb, length, take, drop, get_or}
 use Prim.Native.Char.{code}
 use Rattle.text_scan.specs.Choice.{pick, ◌and◌, not}
 use Rattle.text_scan.specs.Lists.{every, run_from}
@@ -63,6 +63,6 @@ unfoldable pub are_fields : Row → Bool
 are_fields [] = true
 are_fields (f ∷ fs) = is_field f and are_fields fs
 
--- the number of fields, or 0 where one of them is no field
-unfoldable pub field_count : List ℕ → ℕ
-field_count line = pick (are_fields (fields_of line)) (length (fields_of line)) 0
+-- the number of fields, where each of them is a field
+unfoldable pub field_count : List ℕ → Option ℕ
+field_count line = pick (are_fields (fields_of line)) (Some (length (fields_of line))) None

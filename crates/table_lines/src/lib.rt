@@ -1,62 +1,78 @@
 // The lines of the tables file, and the fields of a line, as parts of its bytes.
 #![tactic(auto)]
 
-ghost use Rattle.std.specs.Prelude.{◌≡◌, ◌+◌, ◌≤◌, ltb, length};
+ghost use Rattle.std.specs.Prelude.{◌≡◌, ◌+◌, ◌<◌, ◌≤◌, ltb, None, length};
 ghost use Rattle.text_scan.specs.Lists.{run_from};
 ghost use Rattle.table_lines.specs.Lines.{other, line_end, line_at, field, fields_of, field_count};
 ghost use Rattle.table_lines.specs.Starts.{field_start};
 ghost use Rattle.table_lines.specs.Blocks.{throughout, plain_end};
 
-// A line: the place of its line feed or the length, and the number of its fields, or 0 where one is empty or has a carriage return.
+use text_scan::{ByteClass, run_end};
+
+// A line: the place of its line feed or the length, and the number of its fields, if none is empty or has a carriage return.
 #[derive(Clone, Copy)]
 pub struct Line {
     pub end: usize,
-    pub fields: usize,
+    pub fields: Option<usize>,
 }
 
-// The place of the next byte b from `at` on, or the length.
-fn until(s: &[u8], at: usize, b: u8) -> usize
-    ensures { result ≡ run_from (other b) s.now at }
-{
-    let mut i = at;
-    while i < s.len() {
-        if s[i] == b {
-            return i;
-        }
-        i += 1;
+// All bytes but the line feed.
+struct NoFeed;
+
+impl ByteClass for NoFeed {
+    ghost members = { other 10 };
+
+    fn holds(b: u8) -> bool {
+        b != b'\n'
     }
-    i
 }
 
-// Whether none of the 16 bytes from i on is a line feed. Nothing branches on a byte, so that the compiler compares all of them at once.
-fn feedless(s: &[u8], i: usize) -> bool
-    requires { i + 16 ≤ length s.now }
-    ensures { result ≡ throughout (other 10) s.now i 16 }
+// All bytes but the tab.
+struct NoTab;
+
+impl ByteClass for NoTab {
+    ghost members = { other 9 };
+
+    fn holds(b: u8) -> bool {
+        b != b'\t'
+    }
+}
+
+// The bytes above 13: no tab, line feed or carriage return is.
+struct Plain;
+
+impl ByteClass for Plain {
+    ghost members = { ltb 13 };
+
+    fn holds(b: u8) -> bool {
+        13 < b
+    }
+}
+
+// Whether the N bytes from i on are all of a class. Nothing branches on a byte, so that the compiler compares all of them at once.
+fn throughout<C: ByteClass, const N: usize>(s: &[u8], i: usize) -> bool
+    requires { i + N ≤ length s.now }
+    ensures { result ≡ throughout C.members s.now i N }
 {
     let mut all = true;
-    let mut k = 0;
-    while k < 16 {
-        all = all & (s[i + k] != b'\n');
-        k += 1;
+    for k in 0..N {
+        all = all & C::holds(s[i + k]);
     }
     all
 }
 
-// A place in the line at `at`: behind the blocks without a line feed.
-fn pass_feedless(s: &[u8], at: usize) -> usize
-    ensures { line_end s.now at ≡ line_end s.now result }
+// A place with bytes of the class alone before it: behind the blocks of N of them.
+fn pass<C: ByteClass, const N: usize>(s: &[u8], at: usize) -> usize
+    requires { 0 < N }
+    ensures { run_from C.members s.now at ≡ run_from C.members s.now result }
 {
-    if s.len() < 16 {
+    if s.len() < N {
         return at;
     }
-    let last = s.len() - 16;
+    let last = s.len() - N;
     let mut i = at;
-    while i <= last {
-        if feedless(s, i) {
-            i += 16;
-            continue;
-        }
-        return i;
+    while i <= last && throughout::<C, N>(s, i) {
+        i += N;
     }
     i
 }
@@ -65,63 +81,23 @@ fn pass_feedless(s: &[u8], at: usize) -> usize
 pub fn line_end(s: &[u8], at: usize) -> usize
     ensures { result ≡ line_end s.now at }
 {
-    until(s, pass_feedless(s, at), b'\n')
-}
-
-// Whether each of the 8 bytes from i on is above 13: no tab, line feed or carriage return is.
-fn plain(s: &[u8], i: usize) -> bool
-    requires { i + 8 ≤ length s.now }
-    ensures { result ≡ throughout (ltb 13) s.now i 8 }
-{
-    let mut all = true;
-    let mut k = 0;
-    while k < 8 {
-        all = all & (13 < s[i + k]);
-        k += 1;
-    }
-    all
-}
-
-// A place with bytes above 13 alone before it: behind the blocks of them.
-fn pass_plain(s: &[u8], at: usize) -> usize
-    ensures { plain_end s.now at ≡ plain_end s.now result }
-{
-    if s.len() < 8 {
-        return at;
-    }
-    let last = s.len() - 8;
-    let mut i = at;
-    while i <= last {
-        if plain(s, i) {
-            i += 8;
-            continue;
-        }
-        return i;
-    }
-    i
+    run_end::<NoFeed>(s, pass::<NoFeed, 16>(s, at))
 }
 
 // The place of the next byte from `at` on that is not above 13, or the length: most bytes of a field are passed by blocks.
 pub fn plain_end(s: &[u8], at: usize) -> usize
     ensures { result ≡ plain_end s.now at }
 {
-    let mut i = pass_plain(s, at);
-    while i < s.len() {
-        if s[i] <= 13 {
-            return i;
-        }
-        i += 1;
-    }
-    i
+    run_end::<Plain>(s, pass::<Plain, 8>(s, at))
 }
 
 // A line that has a bad field, from a place in it on: only its end is looked for.
 fn no_fields(s: &[u8], at: usize) -> Line
-    ensures { (result.end ≡ line_end s.now at) × (result.fields ≡ 0) }
+    ensures { (result.end ≡ line_end s.now at) × (result.fields ≡ None) }
 {
     Line {
         end: line_end(s, at),
-        fields: 0,
+        fields: None,
     }
 }
 
@@ -156,11 +132,14 @@ pub fn line_at(s: &[u8], at: usize) -> Line
         i += 1;
     }
     if i <= start {
-        return Line { end: i, fields: 0 };
+        return Line {
+            end: i,
+            fields: None,
+        };
     }
     Line {
         end: i,
-        fields: n + 1,
+        fields: Some(n + 1),
     }
 }
 
@@ -188,7 +167,7 @@ pub fn field_start(line: &[u8], k: usize) -> usize
 fn field_end(line: &[u8], at: usize) -> usize
     ensures { result ≡ run_from (other 9) line.now at }
 {
-    until(line, plain_end(line, at), b'\t')
+    run_end::<NoTab>(line, plain_end(line, at))
 }
 
 // The field of number k of a line; an empty part where it has no such field.

@@ -11,8 +11,8 @@ use Rattle.table_rows.specs.declared.Question.{Question}
 use Rattle.table_rows.specs.Rows.{is_asked}
 
 module _ (t a : Bool) (p : t ≡ a) where
-  pub no_first : (b : Bool) → t ≡ false → false ≡ a and b
-  no_first b e = rw (← p, e)
+  pub no_first : (b v : Bool) → t ≡ false → v ≡ false → v ≡ a and b
+  no_first b v e f = rw (← p, e) f
 
   module _ (e : t ≡ true) where
     pub all_two : (v b : Bool) → v ≡ b → v ≡ a and b
@@ -22,8 +22,8 @@ module _ (t a : Bool) (p : t ≡ a) where
     at_least x y m n q r = rw (← p, e, q, r)
 
     module _ (u b : Bool) (q : u ≡ b) where
-      pub no_second : (c : Bool) → u ≡ false → false ≡ a and b and c
-      no_second c f = rw (← p, e, ← q, f)
+      pub no_second : (c v : Bool) → u ≡ false → v ≡ false → v ≡ a and b and c
+      no_second c v f g = rw (← p, e, ← q, f) g
 
       pub all_three : (v c : Bool) → u ≡ true → v ≡ c → v ≡ a and b and c
       all_three v c f r = rw (← p, e, ← q, f) r

@@ -11,18 +11,19 @@ use Rattle.text_scan.specs.Choice.{◌or◌}
 use Rattle.table_lines.specs.Lines.{Row, fields_of, line_end, rows_at}
 use Rattle.table_rows.specs.Rows.{some_row}
 
+-- whether some row is, told from `at`, is what is told from i, where k rows are passed
 abbrev pub Walking : (Row → Bool) → List ℕ → ℕ → ℕ → ℕ → ℕ → Type 0
-Walking q s at count i left = some_row q (rows_at s at count) ≡ some_row q (rows_at s i left)
+Walking q s at count i k = some_row q (rows_at s at count) ≡ some_row q (rows_at s i (count - k))
 
-module _ (q : Row → Bool) (s : List ℕ) (at count i left : ℕ) (l : Walking q s at count i left) where
-  pub no_more : left ≤ 0 → false ≡ some_row q (rows_at s at count)
+module _ (q : Row → Bool) (s : List ℕ) (at count i k : ℕ) (l : Walking q s at count i k) where
+  pub no_more : count ≤ k → false ≡ some_row q (rows_at s at count)
   unfolding rows_at some_row
   no_more h =
-      let z : left ≡ 0 = omega arith in
+      let z : count - k ≡ 0 = omega arith in
       sym (l ∙ rw z)
 
-  module _ (h : 0 < left) where
-    more : left ≡ suc (left - 1)
+  module _ (h : k < count) where
+    more : count - k ≡ suc (count - (k + 1))
     more = omega arith
 
     pub past_end : length s ≤ i → false ≡ some_row q (rows_at s at count)
@@ -30,14 +31,14 @@ module _ (q : Row → Bool) (s : List ℕ) (at count i left : ℕ) (l : Walking 
     past_end g = sym (l ∙ rw (more, le-ltb i (length s) g))
 
     module _ (g : i < length s) (e : ℕ) (p : e ≡ line_end s i) (t : Bool) (r : t ≡ q (fields_of (take (e - i) (drop i s)))) where
-      here : some_row q (rows_at s i left) ≡ t or some_row q (rows_at s (e + 1) (left - 1))
+      here : some_row q (rows_at s i (count - k)) ≡ t or some_row q (rows_at s (e + 1) (count - (k + 1)))
       unfolding rows_at some_row
       here = ap (λ (n : ℕ). some_row q (rows_at s i n)) more ∙ rw (lt-ltb i (length s) g, ← p, ← r)
 
       pub row_found : t ≡ true → true ≡ some_row q (rows_at s at count)
       row_found f = sym (l ∙ here ∙ rw f)
 
-      pub row_passed : t ≡ false → Walking q s at count (e + 1) (left - 1)
+      pub row_passed : t ≡ false → Walking q s at count (e + 1) (k + 1)
       row_passed f = l ∙ here ∙ rw f
 
 -- of two tables one after the other

@@ -2,7 +2,7 @@
 // row and the count of its rows.
 #![tactic(auto)]
 
-ghost use Rattle.std.specs.Prelude.{◌≡◌, drop};
+ghost use Rattle.std.specs.Prelude.{◌≡◌};
 ghost use Rattle.text_facts.specs.Strings.{equal, equal_in_any_case};
 ghost use Rattle.text_numbers.specs.Numbers.{version_of};
 ghost use Rattle.table_lines.specs.Lines.{other, front, field, fields_of, rows_at};
@@ -19,37 +19,28 @@ pub enum Question {
     OtherKey,
 }
 
-// Whether the field that starts at `at` is this value: most are told by their first bytes, and their ends are not looked for.
-fn value_at(line: &[u8], at: usize, value: &[u8]) -> bool
-    ensures { result ≡ equal (front (other 9) (drop at line.now)) value.now }
+// Whether the field in front is this value: most are told by their first bytes, and their ends are not looked for.
+fn begins_with(rest: &[u8], value: &[u8]) -> bool
+    ensures { result ≡ equal (front (other 9) rest.now) value.now }
 {
-    let mut i = at;
-    let mut j = 0;
-    while j < value.len() {
-        if line.len() <= i {
+    for j in 0..value.len() {
+        if rest.len() <= j {
             return false;
         }
-        let b = line[i];
-        if b != value[j] {
+        let b = rest[j];
+        if b != value[j] || b == b'\t' {
             return false;
         }
-        if b == b'\t' {
-            return false;
-        }
-        i += 1;
-        j += 1;
     }
-    if line.len() <= i {
-        return true;
-    }
-    line[i] == b'\t'
+    rest.len() <= value.len() || rest[value.len()] == b'\t'
 }
 
 // Whether the field of number k of a line is this value.
 pub fn field_is(line: &[u8], k: usize, value: &[u8]) -> bool
     ensures { result ≡ equal (field (fields_of line.now) k) value.now }
 {
-    value_at(line, table_lines::field_start(line, k), value)
+    let at = table_lines::field_start(line, k);
+    begins_with(&line[at..], value)
 }
 
 // The same, ASCII case ignored.
@@ -69,55 +60,31 @@ fn field_version(line: &[u8], k: usize) -> u32
 fn is_code(line: &[u8], code: &[u8], system: &[u8], display: &[u8]) -> bool
     ensures { result ≡ is_code code.now system.now display.now (fields_of line.now) }
 {
-    if field_is(line, 0, code) {
-        if field_is(line, 1, system) {
-            return field_is_in_any_case(line, 2, display);
-        }
-        return false;
-    }
-    false
+    field_is(line, 0, code) && field_is(line, 1, system) && field_is_in_any_case(line, 2, display)
 }
 
 fn is_registered(line: &[u8], number: &[u8], name: &[u8]) -> bool
     ensures { result ≡ is_registered number.now name.now (fields_of line.now) }
 {
-    if field_is(line, 0, number) {
-        return field_is(line, 1, name);
-    }
-    false
+    field_is(line, 0, number) && field_is(line, 1, name)
 }
 
 fn is_version(line: &[u8], set: &[u8], version: &[u8]) -> bool
     ensures { result ≡ is_version set.now version.now (fields_of line.now) }
 {
-    if field_is(line, 1, set) {
-        return text_numbers::version(version) <= field_version(line, 2);
-    }
-    false
+    field_is(line, 1, set) && text_numbers::version(version) <= field_version(line, 2)
 }
 
 fn is_key_elsewhere(line: &[u8], kind: &[u8], key: &[u8], set: &[u8]) -> bool
     ensures { result ≡ is_key_elsewhere kind.now key.now set.now (fields_of line.now) }
 {
-    if field_is(line, 0, kind) {
-        if field_is(line, 4, key) {
-            return !field_is(line, 1, set);
-        }
-        return false;
-    }
-    false
+    field_is(line, 0, kind) && field_is(line, 4, key) && !field_is(line, 1, set)
 }
 
 fn is_other_key(line: &[u8], kind: &[u8], set: &[u8], key: &[u8]) -> bool
     ensures { result ≡ is_other_key kind.now set.now key.now (fields_of line.now) }
 {
-    if field_is(line, 0, kind) {
-        if field_is(line, 1, set) {
-            return !field_is(line, 4, key);
-        }
-        return false;
-    }
-    false
+    field_is(line, 0, kind) && field_is(line, 1, set) && !field_is(line, 4, key)
 }
 
 // Whether a line is the row that is asked for.
@@ -147,8 +114,7 @@ pub fn some_row(
     ensures { result ≡ some_row (is_asked q a.now b.now c.now) (rows_at s.now at count) }
 {
     let mut i = at;
-    let mut left = count;
-    while 0 < left {
+    for _ in 0..count {
         if s.len() <= i {
             return false;
         }
@@ -157,7 +123,6 @@ pub fn some_row(
             return true;
         }
         i = e + 1;
-        left -= 1;
     }
     false
 }

@@ -13,41 +13,47 @@ ghost use Rattle.sort_places.specs.Sorting.{rising};
 ghost use Rattle.table_index.specs.declared.Lookup.{Lookup};
 ghost use Rattle.table_index.specs.Indexed.{asks, by_of, keeps_row, key_from, is_key_of, places_in, Serves};
 
-use sort_compare::Order;
+use std::cmp::Ordering;
 use table_index::Lookup;
 use table_rows::Question;
 
 // Which comes first: the field at a place, or a value.
-fn compare_value(s: &[u8], at: usize, value: &[u8], any: bool) -> Order
+fn compare_value(s: &[u8], at: usize, value: &[u8], any: bool) -> Ordering
     ensures { result ≡ order (shown any (front_field true (drop at s.now))) (shown any value.now) }
 {
     sort_compare::compare_value(sort_compare::rest(s, at), value, any)
 }
 
-// Which comes first: the two fields at a place, or two values; the second in any case of letters where one field is folded.
-fn compare_two(s: &[u8], at: usize, a: &[u8], b: &[u8], folded: usize) -> Order
+// Which comes first: the two fields at a place, or two values; the second in any case of letters where one field is folded. Not by `then_with`: in a
+// closure it would not be known that `at + a.len()` fits.
+fn compare_two(s: &[u8], at: usize, a: &[u8], b: &[u8], folded: usize) -> Ordering
     ensures { result ≡ order (row_key 2 folded (drop at s.now)) (coded (shown (eqb 2 folded) a.now ∷ shown (eqb 1 folded) b.now ∷ [])) }
 {
     match compare_value(s, at, a, 2 == folded) {
-        Order::Less => Order::Less,
-        Order::More => Order::More,
-        Order::Same => compare_value(s, sort_compare::next_field(s, at + a.len()), b, 1 == folded),
+        Ordering::Less => Ordering::Less,
+        Ordering::Greater => Ordering::Greater,
+        Ordering::Equal => compare_value(
+            s,
+            sort_compare::next_field(s, at + a.len()),
+            b,
+            1 == folded,
+        ),
     }
 }
 
 // Which comes first: the code, system and display name at a place, or three values.
-fn compare_code(s: &[u8], at: usize, a: &[u8], b: &[u8], c: &[u8]) -> Order
+fn compare_code(s: &[u8], at: usize, a: &[u8], b: &[u8], c: &[u8]) -> Ordering
     ensures { result ≡ order (row_key 3 1 (drop at s.now)) (key_from Lookup.Code a.now b.now c.now) }
 {
     match compare_value(s, at, a, false) {
-        Order::Less => Order::Less,
-        Order::More => Order::More,
-        Order::Same => compare_two(s, sort_compare::next_field(s, at + a.len()), b, c, 1),
+        Ordering::Less => Ordering::Less,
+        Ordering::Greater => Ordering::Greater,
+        Ordering::Equal => compare_two(s, sort_compare::next_field(s, at + a.len()), b, c, 1),
     }
 }
 
 // Which comes first: the row that has its place here, or the values that are asked for.
-fn compare_asked(q: Lookup, s: &[u8], at: usize, a: &[u8], b: &[u8], c: &[u8]) -> Order
+fn compare_asked(q: Lookup, s: &[u8], at: usize, a: &[u8], b: &[u8], c: &[u8]) -> Ordering
     ensures { result ≡ order (key_at (by_of q) s.now at) (key_from q a.now b.now c.now) }
 {
     match q {
@@ -62,23 +68,8 @@ fn search(q: Lookup, s: &[u8], run: &[u32], a: &[u8], b: &[u8], c: &[u8]) -> boo
     requires { rising (key_at (by_of q) s.now) run.now ≡ true }
     ensures { result ≡ some (is_key_of q s.now (key_from q a.now b.now c.now)) run.now }
 {
-    let mut low = 0;
-    let mut high = run.len();
-    while low < high {
-        let middle = low + (high - low) / 2;
-        match compare_asked(q, s, run[middle] as usize, a, b, c) {
-            Order::Less => {
-                low = middle + 1;
-                continue;
-            }
-            Order::More => {
-                high = middle;
-                continue;
-            }
-            Order::Same => return true,
-        }
-    }
-    false
+    run.binary_search_by(|at| compare_asked(q, s, *at as usize, a, b, c))
+        .is_ok()
 }
 
 // The same of the places that an index has.
@@ -88,17 +79,6 @@ fn has_place(q: Lookup, s: &[u8], index: &[u32], a: &[u8], b: &[u8], c: &[u8]) -
 {
     let n = index[0] as usize;
     search(q, s, &index[1..1 + n], a, b, c)
-}
-
-// The question that is asked.
-fn question(q: Lookup) -> Question
-    ensures { result ≡ asks q }
-{
-    match q {
-        Lookup::Code => Question::Code,
-        Lookup::Name => Question::Name,
-        Lookup::KeyElsewhere => Question::KeyElsewhere,
-    }
 }
 
 // Whether some row of a section whose index stands in a run is the row that is asked for; where the run is empty, along all rows.
@@ -118,5 +98,5 @@ pub fn some_row(
     if 0 < index.len() {
         return has_place(q, s, index, a, b, c);
     }
-    table_rows::some_row(question(q), s, at, count, a, b, c)
+    table_rows::some_row(Question::from(q), s, at, count, a, b, c)
 }

@@ -18,19 +18,19 @@ use Rattle.table_sets.specs.declared.Keys.{Keys}
 use Rattle.table_sets.specs.SetKeys.{is_of_set, first_row, key_of_row, keys_of}
 
 module _ (p : Row → Bool) (s : List ℕ) where
-  -- ---- the walk
+  -- ---- the walk: the first row, told from `at`, is what is told from i, where k rows are passed
   abbrev pub Looking : ℕ → ℕ → ℕ → ℕ → Type 0
-  Looking at count i left = first_row p s at count ≡ first_row p s i left
+  Looking at count i k = first_row p s at count ≡ first_row p s i (count - k)
 
-  module _ (at count i left : ℕ) (l : Looking at count i left) where
-    pub no_more : left ≤ 0 → length s ≡ first_row p s at count
+  module _ (at count i k : ℕ) (l : Looking at count i k) where
+    pub no_more : count ≤ k → length s ≡ first_row p s at count
     unfolding first_row
     no_more h =
-        let z : left ≡ 0 = omega arith in
+        let z : count - k ≡ 0 = omega arith in
         sym (l ∙ rw z)
 
-    module _ (h : 0 < left) where
-      more : left ≡ suc (left - 1)
+    module _ (h : k < count) where
+      more : count - k ≡ suc (count - (k + 1))
       more = omega arith
 
       pub past_end : length s ≤ i → length s ≡ first_row p s at count
@@ -38,14 +38,14 @@ module _ (p : Row → Bool) (s : List ℕ) where
       past_end g = sym (l ∙ rw (more, le-ltb i (length s) g))
 
       module _ (g : i < length s) (e : ℕ) (q : e ≡ line_end s i) (t : Bool) (r : t ≡ p (fields_of (take (e - i) (drop i s)))) where
-        here : first_row p s i left ≡ pick t i (first_row p s (e + 1) (left - 1))
+        here : first_row p s i (count - k) ≡ pick t i (first_row p s (e + 1) (count - (k + 1)))
         unfolding first_row
         here = ap (λ (n : ℕ). first_row p s i n) more ∙ rw (lt-ltb i (length s) g, ← q, ← r)
 
         pub row_found : t ≡ true → i ≡ first_row p s at count
         row_found f = sym (l ∙ here ∙ rw f)
 
-        pub row_passed : t ≡ false → Looking at count (e + 1) (left - 1)
+        pub row_passed : t ≡ false → Looking at count (e + 1) (k + 1)
         row_passed f = l ∙ here ∙ rw f
 
   -- ---- what holds of it, by the ways in which it is found

@@ -17,10 +17,7 @@ pub struct Keys {
 fn is_of_set(line: &[u8], kind: &[u8], set: &[u8]) -> bool
     ensures { result ≡ is_of_set kind.now set.now (fields_of line.now) }
 {
-    if table_rows::field_is(line, 0, kind) {
-        return table_rows::field_is(line, 1, set);
-    }
-    false
+    table_rows::field_is(line, 0, kind) && table_rows::field_is(line, 1, set)
 }
 
 // Where the first of those rows starts, or the length of the file.
@@ -28,8 +25,7 @@ fn first_of_set(s: &[u8], at: usize, count: usize, kind: &[u8], set: &[u8]) -> u
     ensures { result ≡ first_row (is_of_set kind.now set.now) s.now at count }
 {
     let mut i = at;
-    let mut left = count;
-    while 0 < left {
+    for _ in 0..count {
         if s.len() <= i {
             return s.len();
         }
@@ -38,7 +34,6 @@ fn first_of_set(s: &[u8], at: usize, count: usize, kind: &[u8], set: &[u8]) -> u
             return i;
         }
         i = e + 1;
-        left -= 1;
     }
     s.len()
 }

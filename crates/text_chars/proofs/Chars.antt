@@ -1,45 +1,22 @@
--- Which numbers are a Char, by the ranges in which the code looks.
+-- Which numbers are a Char, by their range.
 -- Assumes nothing.
 use mathlib.Core.Path.{◌≡◌, sym, refl, ◌∙◌}
 use mathlib.Core.Bool.{true, false, Bool}
-use Prim.Native.Nat.{ℕ, ◌<◌, ◌≤◌}
+use Prim.Native.Nat.{ℕ, ◌≤◌}
 use native.Mathlib.Omega.{arith}
 use borrow.Author.Tests.{le-leb, ne_eqb, leb-true, leb-false}
-use lib.Dec.{leb, eqb}
+use lib.Dec.{leb}
 use Rattle.text_scan.specs.Choice.{◌or◌, between}
-use Rattle.text_scan.proofs.Tests.{or_false, under, within, over, never}
+use Rattle.text_scan.proofs.Tests.{within, over, never}
 use Rattle.text_chars.specs.Utf8.{is_xml_char}
 
 module _ (x : ℕ) where
-  pub tab : x ≡ 9 → true ≡ is_xml_char x
-  unfolding is_xml_char
-  tab e = rw e
-
-  pub line : x ≡ 10 → true ≡ is_xml_char x
-  unfolding is_xml_char
-  line e = rw e
-
-  pub low : x < 0x20 → (x ≡ 9 → ⊥) → (x ≡ 10 → ⊥) → eqb x 13 ≡ is_xml_char x
-  unfolding is_xml_char
-  low h a b =
-      rw (ne_eqb x 9 a, ne_eqb x 10 b, under 0x20 0xD7FF x h, under 0xE000 0xFFFD x (omega arith), under 0x10000 0x10FFFF x (omega arith))
-      (sym (or_false (eqb x 13)))
-
   no_control : 0x20 ≤ x → is_xml_char x ≡ between 0x20 0xD7FF x or between 0xE000 0xFFFD x or between 0x10000 0x10FFFF x
   unfolding is_xml_char
   no_control h = rw (ne_eqb x 9 (λ e. omega arith), ne_eqb x 10 (λ e. omega arith), ne_eqb x 13 (λ e. omega arith))
 
   pub first : 0x20 ≤ x → x ≤ 0xD7FF → true ≡ is_xml_char x
   first h g = rw (no_control h, within 0x20 0xD7FF x h g)
-
-  pub surrogate : 0xD7FF < x → x < 0xE000 → false ≡ is_xml_char x
-  surrogate h g = rw (no_control (omega arith), over 0x20 0xD7FF x h, under 0xE000 0xFFFD x g, under 0x10000 0x10FFFF x (omega arith))
-
-  pub second : 0xE000 ≤ x → x ≤ 0xFFFD → true ≡ is_xml_char x
-  second h g = rw (no_control (omega arith), over 0x20 0xD7FF x (omega arith), within 0xE000 0xFFFD x h g)
-
-  pub last_two : 0xFFFD < x → x < 0x10000 → false ≡ is_xml_char x
-  last_two h g = rw (no_control (omega arith), over 0x20 0xD7FF x (omega arith), over 0xE000 0xFFFD x h, under 0x10000 0x10FFFF x g)
 
   pub third : 0x10000 ≤ x → leb x 0x10FFFF ≡ is_xml_char x
   third h = rw (no_control (omega arith), over 0x20 0xD7FF x (omega arith), over 0xE000 0xFFFD x (omega arith), le-leb 0x10000 x h)

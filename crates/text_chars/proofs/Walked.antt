@@ -7,6 +7,8 @@ use Prim.Native.Nat.{ℕ, zero, suc, ◌+◌, ◌-◌, ◌<◌, ◌≤◌, ◌^�
 use native.Mathlib.Omega.{arith}
 use borrow.Author.Tests.{lt-leb, le-leb}
 use lib.Dec.{leb}
+use Rattle.std.specs.Prelude.{Option, None, Some}
+use Rattle.std.proofs.lemmas.Option.{none-some}
 use mir.Val.{Fits}
 use mir.Syntax.{w64}
 use lib.ListN.{length, get_or}
@@ -17,7 +19,7 @@ use Rattle.text_scan.proofs.Tests.{pick_case, and_left, and_right, within}
 use Rattle.text_scan.proofs.Within.{holds_there}
 use Rattle.text_scan.proofs.Walk as walks
 use Rattle.text_chars.specs.Utf8.{is_xml_char, Char, none, char, sound, tail, decode, char_at, width_of, char_step, steps, mark, first_bad}
-use Rattle.text_chars.specs.Blocks.{plain, plains, bad_from, bad_walked}
+use Rattle.text_chars.specs.Blocks.{width, plain, plains, bad_from, bad_walked}
 use Rattle.text_chars.proofs.Chars.{first}
 
 -- ---- a character that stands at a position ends within the list
@@ -55,6 +57,47 @@ fits s i h =
 
     d : ℕ
     d = get_or s (i + 3) 0
+
+-- ---- what the width of a character tells of the walk's step; no form is of no bytes
+abbrev Wide : Char → Type 0
+Wide none = Unit {0}
+Wide (char w c) = 0 < w
+
+sound_wide : (w least c : ℕ) → 0 < w → Wide (sound w least c)
+unfolding sound
+sound_wide w least c h = pick_case Wide (leb least c and is_xml_char c) (char w c) none (λ _. h) (λ _. tt)
+
+wide : (s : List ℕ) (i : ℕ) → Wide (char_at s i)
+unfolding char_at decode
+wide s i =
+    pick_case Wide (between 0 0x7F a) _ _ (λ _. sound_wide 1 0 a (omega arith))
+    (λ _. pick_case Wide (between 0xC0 0xDF a and tail b) _ _ (λ _. sound_wide 2 0x80 _ (omega arith))
+    (λ _. pick_case Wide (between 0xE0 0xEF a and tail b and tail c) _ _ (λ _. sound_wide 3 0x800 _ (omega arith))
+    (λ _. pick_case Wide (between 0xF0 0xF7 a and tail b and tail c and tail d) _ _ (λ _. sound_wide 4 0x10000 _ (omega arith)) (λ _. tt))))
+  where
+    a : ℕ
+    a = get_or s i 0
+
+    b : ℕ
+    b = get_or s (i + 1) 0
+
+    c : ℕ
+    c = get_or s (i + 2) 0
+
+    d : ℕ
+    d = get_or s (i + 3) 0
+
+no_width : (x : Char) → None ≡ width x → width_of x ≡ 0
+no_width none e = refl
+no_width (char w c) e = absurd (none-some w e)
+
+abbrev or_zero : Option ℕ → ℕ
+or_zero None = 0
+or_zero (Some w) = w
+
+its_width : (x : Char) (w : ℕ) → Some w ≡ width x → Wide x → (w ≡ width_of x) × (0 < w)
+its_width none w e h = absurd (none-some w (sym e))
+its_width (char v c) w e h = let f : w ≡ v = ap or_zero e in (f, omega arith)
 
 -- ---- the walk, of which x is told
 abbrev pub At : List ℕ → ℕ → Type 0
@@ -102,23 +145,30 @@ module _ (s : List ℕ) (i x : ℕ) where
     ascii a h l lo hi =
         a ∙ over_plain s i (omega arith) (rw (within 0 0x7F (get_or s i 0) (omega arith) (omega arith), ← first (get_or s i 0) lo (omega arith)))
 
-    pub goes : (w : ℕ) → x ≡ bad_from s i → i < end → end ≤ length s → w ≡ width_of (char_at s i) → (w ≡ 0 → ⊥) → x ≡ bad_from s (i + w)
-    unfolding bad_from
-    goes zero a h l e z = absurd (z refl)
-    goes (suc w) a h l e z =
-        let f : i + 1 + w ≡ i + suc w = omega arith in
-        a ∙ (rw f at (walks.goes (steps s) (length s) (length s) i w (omega (arith, fits s i (omega arith))) (ap (char_step i) (sym e))))
+    module _ (w : ℕ) (h : i < end) (l : end ≤ length s) (e : Some w ≡ width (char_at s i)) where
+      told : (w ≡ width_of (char_at s i)) × (0 < w)
+      told = its_width (char_at s i) w e (wide s i)
 
-    pub stops : (w : ℕ) → x ≡ bad_from s i → i < end → end ≤ length s → w ≡ width_of (char_at s i) → w ≡ 0 → bad_walked s end i ≡ x
+      pub goes : x ≡ bad_from s i → x ≡ bad_from s (i + w)
+      unfolding bad_from
+      goes a =
+          let f : i + 1 + (w - 1) ≡ i + w = omega (arith, told.1) in
+          let g : suc (w - 1) ≡ w = omega (arith, told.1) in
+          a ∙ (rw f at (walks.goes (steps s) (length s) (length s) i (w - 1) (omega (arith, told.0, told.1, fits s i (omega arith))) (ap (char_step i) (sym told.0 ∙ sym g))))
+
+      pub falls : end - (i + w) < end - i
+      falls = omega (arith, told.1)
+
+      pub room : length s < 2 ^ 64 → Fits w64 (i + w)
+      room m = omega (arith, told.0, fits s i (omega arith))
+
+    pub stops : x ≡ bad_from s i → i < end → end ≤ length s → None ≡ width (char_at s i) → bad_walked s end i ≡ x
     unfolding bad_from
-    stops w a h l e z =
-        rw (lt-leb end i h) (sym (a ∙ walks.stops (steps s) (length s) (length s) i i (omega arith) (ap (char_step i) (sym e ∙ z))))
+    stops a h l e =
+        rw (lt-leb end i h) (sym (a ∙ walks.stops (steps s) (length s) (length s) i i (omega arith) (ap (char_step i) (no_width (char_at s i) e))))
 
     pub comes : x ≡ bad_from s i → end ≤ i → bad_walked s end i ≡ x
     comes a h = rw (le-leb end i h) (sym a)
-
-    pub room : (w : ℕ) → i < end → end ≤ length s → length s < 2 ^ 64 → w ≡ width_of (char_at s i) → Fits w64 (i + w)
-    room w h l m e = omega (arith, fits s i (omega arith))
 
     -- ---- where that walk came to r
     pub bad : (r : ℕ) → x ≡ bad_from s i → bad_walked s end r ≡ bad_from s i → r < end → r ≡ x

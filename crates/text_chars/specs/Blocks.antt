@@ -1,9 +1,14 @@
 -- What the private functions of `first_bad` answer. No definition of document 01 stands here.
 -- Assumes nothing.
-use Rattle.std.specs.Prelude.{ℕ, zero, suc, ◌+◌, Bool, true, List, leb, length, get_or}
+use Rattle.std.specs.Prelude.{ℕ, zero, suc, ◌+◌, Bool, true, List, Option, None, Some, leb, length, get_or}
 use Rattle.text_scan.specs.Choice.{pick, ◌and◌, between}
 use Rattle.text_scan.specs.Walk.{from}
-use Rattle.text_chars.specs.Utf8.{is_xml_char, steps}
+use Rattle.text_chars.specs.Utf8.{is_xml_char, Char, none, char, steps}
+
+-- the width of a character, if one stands there
+abbrev pub width : Char → Option ℕ
+width none = None
+width (char w c) = Some w
 
 -- a byte is plain if it is a Char by itself
 unfoldable pub plain : ℕ → Bool

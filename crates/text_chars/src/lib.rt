@@ -2,73 +2,53 @@
 #![tactic(auto)]
 
 ghost use Rattle.std.specs.Prelude.{◌≡◌, ◌+◌, ◌<◌, ◌≤◌, length, get_or};
-ghost use Rattle.text_chars.specs.Utf8.{is_xml_char, sound, width_of, char_at, first_bad};
-ghost use Rattle.text_chars.specs.Blocks.{plains, bad_from, bad_walked};
+ghost use Rattle.text_chars.specs.Utf8.{is_xml_char, sound, char_at, first_bad};
+ghost use Rattle.text_chars.specs.Blocks.{width, plains, bad_from, bad_walked};
 
+#[tactic(auto, unfolding(crate::specs::Utf8::is_xml_char))]
 pub fn is_char(c: u32) -> bool
     ensures { result ≡ is_xml_char c }
 {
-    if c < 0x20 {
-        if c == 9 {
-            return true;
-        }
-        if c == 10 {
-            return true;
-        }
-        return c == 13;
-    }
-    if c <= 0xD7FF {
-        return true;
-    }
-    if c < 0xE000 {
-        return false;
-    }
-    if c <= 0xFFFD {
-        return true;
-    }
-    if c < 0x10000 {
-        return false;
-    }
-    c <= 0x10FFFF
+    matches!(c, 0x9 | 0xA | 0xD | 0x20..=0xD7FF | 0xE000..=0xFFFD | 0x10000..=0x10FFFF)
 }
 
-// The width of a form, where the code point is sound in it, and else 0.
-fn sound_width(w: usize, least: u32, c: u32) -> usize
-    ensures { result ≡ width_of (sound w least c) }
+// The width of a form, where the code point is sound in it.
+fn sound_width(w: usize, least: u32, c: u32) -> Option<usize>
+    ensures { result ≡ width (sound w least c) }
 {
     if c < least {
-        return 0;
+        return None;
     }
     if is_char(c) {
-        return w;
+        return Some(w);
     }
-    0
+    None
 }
 
 // The width of the character at i, whose first bytes a and b open a form of three or four bytes.
-fn long_width(s: &[u8], i: usize, a: u32, b: u32) -> usize
+fn long_width(s: &[u8], i: usize, a: u32, b: u32) -> Option<usize>
     requires { (i < length s.now) × (a ≡ get_or s.now i 0) × (b ≡ get_or s.now (i + 1) 0) × (0xE0 ≤ a) × (0x80 ≤ b) × (b ≤ 0xBF) }
-    ensures { result ≡ width_of (char_at s.now i) }
+    ensures { result ≡ width (char_at s.now i) }
 {
     let c = text_scan::byte(s, i + 2);
     if c < 0x80 {
-        return 0;
+        return None;
     }
     if 0xBF < c {
-        return 0;
+        return None;
     }
     if a < 0xF0 {
         return sound_width(3, 0x800, (a - 0xE0) * 4096 + (b - 0x80) * 64 + (c - 0x80));
     }
     if 0xF7 < a {
-        return 0;
+        return None;
     }
     let d = text_scan::byte(s, i + 3);
     if d < 0x80 {
-        return 0;
+        return None;
     }
     if 0xBF < d {
-        return 0;
+        return None;
     }
     sound_width(
         4,
@@ -77,24 +57,24 @@ fn long_width(s: &[u8], i: usize, a: u32, b: u32) -> usize
     )
 }
 
-// The width of the character at i, or 0 where none stands there.
-fn width_at(s: &[u8], i: usize) -> usize
+// The width of the character at i, if one stands there.
+fn width_at(s: &[u8], i: usize) -> Option<usize>
     requires { i < length s.now }
-    ensures { result ≡ width_of (char_at s.now i) }
+    ensures { result ≡ width (char_at s.now i) }
 {
     let a = s[i] as u32;
     if a < 0x80 {
         return sound_width(1, 0, a);
     }
     if a < 0xC0 {
-        return 0;
+        return None;
     }
     let b = text_scan::byte(s, i + 1);
     if b < 0x80 {
-        return 0;
+        return None;
     }
     if 0xBF < b {
-        return 0;
+        return None;
     }
     if a < 0xE0 {
         return sound_width(2, 0x80, (a - 0xC0) * 64 + (b - 0x80));
@@ -108,12 +88,10 @@ fn plain_block(s: &[u8], i: usize) -> bool
     ensures { result ≡ plains s.now i 32 }
 {
     let mut all = true;
-    let mut k = 0;
-    while k < 32 {
+    for k in 0..32 {
         let b = s[i + k];
         let plain = (0x20 <= b) & (b < 0x80) | (b == 9) | (b == 10) | (b == 13);
         all = all & plain;
-        k += 1;
     }
     all
 }
@@ -132,10 +110,9 @@ fn walk_to(s: &[u8], at: usize, end: usize) -> usize
                 continue;
             }
         }
-        let w = width_at(s, i);
-        if w == 0 {
+        let Some(w) = width_at(s, i) else {
             return i;
-        }
+        };
         i += w;
     }
     i

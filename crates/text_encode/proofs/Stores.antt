@@ -2,7 +2,8 @@
 -- Assumes nothing.
 use mathlib.Core.Path.{◌≡◌, refl, sym, ◌∙◌, ap}
 use mathlib.Core.List.{List, [], ◌∷◌}
-use Prim.Native.Nat.{ℕ, suc, ◌+◌, ◌*◌, ◌<◌, ◌≤◌, ◌^◌}
+use Prim.Native.Nat.{ℕ, suc, min, ◌+◌, ◌*◌, ◌<◌, ◌≤◌, ◌^◌}
+use native.Mathlib.Nat.{min-eq_left, min-eq_right}
 use native.Mathlib.Omega.{arith}
 use borrow.Author.Tests.{le-leb, lt-leb}
 use lib.ListN.{length, drop, get_or, set, length-set, drop_of_length-le}
@@ -23,6 +24,9 @@ module _ (n at : ℕ) where
   pub behind : n < at → n ≡ up_to n at
   unfolding up_to
   behind h = rw (lt-leb at n h)
+
+  pub the_less : min at n ≡ up_to n at
+  the_less = inside at n (λ h. let g : n ≤ at = omega arith in min-eq_right g ∙ behind h) (λ h. min-eq_left h ∙ among h)
 
   pub up_to_most : up_to n at ≤ n
   up_to_most = inside at n (λ h. rw (← (behind h)) (omega arith)) (λ h. rw (← (among h)) h)
@@ -63,9 +67,6 @@ module _ (bytes out₀ : List ℕ) (start : ℕ) (out : List ℕ) (k : ℕ) (l :
         long = ap length e ∙ length-set out (start + k) (get_or bytes k 0) ∙ l.long;
         few = omega arith;
       }
-
-  pub stored_count : length bytes ≤ k → k ≡ length bytes
-  stored_count h = omega (arith, l.few)
 
   pub stored_all : length bytes ≤ k → (at : ℕ) → start ≡ up_to (length out₀) at → out ≡ sets out₀ at bytes
   stored_all h at e = ap (sets out (start + k)) (sym (drop_of_length-le bytes h)) ∙ l.makes ∙ rw e (sets_up_to bytes out₀ at)

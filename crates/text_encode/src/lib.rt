@@ -10,10 +10,7 @@ ghost use Rattle.text_encode.specs.Places.{up_to};
 pub fn up_to(n: usize, at: usize) -> usize
     ensures { result ≡ up_to n at }
 {
-    if at <= n {
-        return at;
-    }
-    n
+    at.min(n)
 }
 
 // Stores a byte, if there is a place for it.
@@ -30,12 +27,10 @@ fn store(bytes: &[u8], out: &mut [u8], at: usize) -> usize
     ensures { (result ≡ length bytes.now) × (out.new ≡ sets out.old at bytes.now) }
 {
     let start = up_to(out.len(), at);
-    let mut k = 0;
-    while k < bytes.len() {
-        put(bytes[k], out, start + k);
-        k += 1;
+    for (k, b) in bytes.iter().enumerate() {
+        put(*b, out, start + k);
     }
-    k
+    bytes.len()
 }
 
 // Stores the bytes of a code point from `at` on, those for which there is a place, and answers how many they are.

@@ -1,19 +1,23 @@
 -- Strings, GUIDs and labeler codes, by the branches in which the code looks.
 -- Assumes nothing.
 use mathlib.Core.Path.{◌≡◌, refl, sym, ◌∙◌, ap}
-use mathlib.Core.Bool.{Bool, true, false}
-use mathlib.Core.List.{List, [], ◌∷◌}
-use Prim.Native.Nat.{ℕ, ◌+◌, ◌<◌}
+use mathlib.Core.Bool.{Bool, true, false, ◌||◌}
+use mathlib.Core.List.{List, [], ◌∷◌, map}
+use Prim.Native.Nat.{ℕ}
 use native.Mathlib.Omega.{arith}
-use borrow.Author.Tests.{eq-eqb, ne_eqb, eqb-true}
+use borrow.Author.Tests.{eq-eqb, ne_eqb, eqb-true, lt-ltb, le-ltb}
+use mathlib.Core.Logic.{◌↔◌}
+use Rattle.std.specs.List.{list_any}
+use Rattle.std.specs.Char.{to_ascii_lowercase}
 use lib.Dec.{eqb}
 use lib.ListN.{length, get_or}
-use Rattle.text_scan.specs.Choice.{not}
-use Rattle.text_scan.specs.Bytes.{text, is_digit, is_lower_hex}
+use Rattle.text_scan.specs.Choice.{not, ◌or◌, ◌and◌}
+use Rattle.text_scan.specs.Bytes.{text, is_digit, is_lower_hex, lower}
 use Rattle.text_scan.specs.Lists.{every, pairs}
-use Rattle.text_scan.proofs.Tests.{never, and_left, and_right, and_true, or_false}
-use Rattle.text_scan.proofs.Lists.{Every, every_goes, every_stops, Pairs, pairs_other, keys_stops}
-use Rattle.text_facts.specs.Strings.{equal, without_space, guid_byte, is_one_of, reserved, is_labeler_code}
+use Rattle.text_scan.proofs.Tests.{never, not_passed, and_left, and_right, and_true, under, within, over}
+use Rattle.text_scan.proofs.Within.{inside}
+use Rattle.text_scan.proofs.Lists.{pairs_other}
+use Rattle.text_facts.specs.Strings.{equal, equal_in_any_case, guid_byte, is_one_of, reserved, is_labeler_code}
 
 -- ---- equality is what it should be
 pub equal_same : (a : List ℕ) → equal a a ≡ true
@@ -29,18 +33,22 @@ equal_is (x ∷ xs) [] e = never (sym e)
 equal_is (x ∷ xs) (y ∷ ys) e =
     rw (eqb-true x y (and_left (eqb x y) (pairs eqb xs ys) e)) (ap (λ (l : List ℕ). y ∷ l) (equal_is xs ys (and_right (eqb x y) (pairs eqb xs ys) e)))
 
-pub equal_stops : (a b : List ℕ) (i : ℕ) → Pairs eqb a b i → length a ≡ length b → i < length a → (get_or a i 0 ≡ get_or b i 0 → ⊥) → false ≡ equal a b
-unfolding equal
-equal_stops a b i l n h e = keys_stops (λ x. x) a b i l n h (get_or a i 0) (get_or b i 0) e refl refl
+-- the library's word on letters
+small : (b : ℕ) → to_ascii_lowercase b ≡ lower b
+small b =
+    inside 65 b (λ h. rw (lt-ltb b 65 h, under 65 90 b h))
+    (λ h. inside 91 b (λ g. rw (le-ltb b 65 h, lt-ltb b 91 g, within 65 90 b h (omega arith))) (λ g. rw (le-ltb b 65 h, le-ltb b 91 g, over 65 90 b (omega arith))))
 
--- ---- no space
-module _ (s : List ℕ) (i : ℕ) (l : Every (λ b. not (eqb b 32)) s i) (h : i < length s) where
-  pub space_stops : get_or s i 0 ≡ 32 → false ≡ without_space s
-  unfolding without_space
-  space_stops e = every_stops _ s i l false h (rw e) refl
+keyed : (a b : List ℕ) → equal (map to_ascii_lowercase a) (map to_ascii_lowercase b) ≡ equal_in_any_case a b
+unfolding equal equal_in_any_case pairs
+keyed [] [] = refl
+keyed [] (y ∷ ys) = refl
+keyed (x ∷ xs) [] = refl
+keyed (x ∷ xs) (y ∷ ys) = λ i. eqb (small x i) (small y i) and keyed xs ys i
 
-  pub space_goes : (get_or s i 0 ≡ 32 → ⊥) → Every (λ b. not (eqb b 32)) s (i + 1)
-  space_goes e = every_goes _ s i l true h (rw (ne_eqb _ 32 e)) refl
+pub any_case : (a b : List ℕ) (r : Bool) → (r ≡ true) ↔ (map to_ascii_lowercase a ≡ map to_ascii_lowercase b) → r ≡ equal_in_any_case a b
+any_case a b true h = sym (sym (keyed a b) ∙ rw (h.0 refl) (equal_same _))
+any_case a b false h = sym (sym (keyed a b) ∙ not_passed _ (λ e. never (sym (h.1 (equal_is _ _ e)))))
 
 -- ---- GUIDs
 module _ (b form : ℕ) where
@@ -51,18 +59,14 @@ module _ (b form : ℕ) where
   guid_digit e t f = rw (ne_eqb form 45 e) f
 
 -- ---- labeler codes
-module _ (x s : List ℕ) (t : Bool) (e : t ≡ equal s x) (xs : List (List ℕ)) where
-  pub one_of : t ≡ true → true ≡ is_one_of (x ∷ xs) s
-  unfolding is_one_of
-  one_of f = rw (← e, f)
-
-  pub one_of_more : (r : Bool) → t ≡ false → r ≡ is_one_of xs s → r ≡ is_one_of (x ∷ xs) s
-  unfolding is_one_of
-  one_of_more r f g = rw (← e, f) g
-
-pub one_of_last : (x s : List ℕ) (t : Bool) → t ≡ equal s x → t ≡ is_one_of (x ∷ []) s
+pub one_of_any : (s : List ℕ) (ts : List (List ℕ)) → list_any (equal s) ts ≡ is_one_of ts s
 unfolding is_one_of
-one_of_last x s t e = e ∙ sym (or_false (equal s x))
+one_of_any s [] = refl
+one_of_any s (t ∷ ts) = go (equal s t) (one_of_any s ts)
+  where
+    go : (b : Bool) → list_any (equal s) ts ≡ is_one_of ts s → (b || list_any (equal s) ts) ≡ b or is_one_of ts s
+    go true e = refl
+    go false e = e
 
 other_length : (x s : List ℕ) → length x ≡ 4 → length s ≡ 5 → equal s x ≡ false
 unfolding equal

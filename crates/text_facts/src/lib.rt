@@ -11,36 +11,14 @@ ghost use Rattle.text_facts.specs.Strings.{equal, equal_in_any_case, begins_with
 pub fn same(a: &[u8], b: &[u8]) -> bool
     ensures { result ≡ equal a.now b.now }
 {
-    if a.len() != b.len() {
-        return false;
-    }
-    let mut i = 0;
-    while i < a.len() {
-        if a[i] == b[i] {
-            i += 1;
-            continue;
-        }
-        return false;
-    }
-    true
+    a == b
 }
 
 // Whether two strings have the same bytes, ASCII case ignored.
 pub fn same_in_any_case(a: &[u8], b: &[u8]) -> bool
     ensures { result ≡ equal_in_any_case a.now b.now }
 {
-    if a.len() != b.len() {
-        return false;
-    }
-    let mut i = 0;
-    while i < a.len() {
-        if text_scan::lower_case(a[i]) == text_scan::lower_case(b[i]) {
-            i += 1;
-            continue;
-        }
-        return false;
-    }
-    true
+    a.eq_ignore_ascii_case(b)
 }
 
 // Whether s begins with t.
@@ -54,33 +32,24 @@ pub fn begins_with(s: &[u8], t: &[u8]) -> bool
 pub fn without_space(s: &[u8]) -> bool
     ensures { result ≡ without_space s.now }
 {
-    let mut i = 0;
-    while i < s.len() {
-        if s[i] == 32 {
-            return false;
-        }
-        i += 1;
-    }
-    true
+    s.iter().all(|b| *b != b' ')
 }
 
 fn is_lower_hex(b: u8) -> bool
     ensures { result ≡ is_lower_hex b }
 {
-    if b < 97 {
-        return text_scan::is_digit(b);
-    }
-    b <= 102
+    matches!(b, b'0'..=b'9' | b'a'..=b'f')
 }
 
 // Whether a byte may stand where the form of a GUID has `form`: a hyphen for a hyphen, else a digit.
 fn guid_byte(b: u8, form: u8) -> bool
     ensures { result ≡ guid_byte b form }
 {
-    if form == 45 {
-        return b == 45;
+    if form == b'-' {
+        b == b'-'
+    } else {
+        is_lower_hex(b)
     }
-    is_lower_hex(b)
 }
 
 // Whether s is a GUID.
@@ -93,37 +62,16 @@ pub fn is_guid(s: &[u8]) -> bool
 fn in_guid_form(s: &[u8], form: &[u8]) -> bool
     ensures { result ≡ pairs guid_byte s.now form.now }
 {
-    if s.len() != form.len() {
-        return false;
-    }
-    let mut i = 0;
-    while i < s.len() {
-        if guid_byte(s[i], form[i]) {
-            i += 1;
-            continue;
-        }
-        return false;
-    }
-    true
+    s.len() == form.len() && s.iter().zip(form).all(|(b, f)| guid_byte(*b, *f))
 }
+
+const RESERVED: [[u8; 4]; 5] = [*b"0000", *b"0001", *b"1500", *b"1800", *b"1900"];
 
 // Whether s is a code that no labeler has.
 fn is_reserved(s: &[u8]) -> bool
     ensures { result ≡ is_one_of reserved s.now }
 {
-    if same(s, b"0000") {
-        return true;
-    }
-    if same(s, b"0001") {
-        return true;
-    }
-    if same(s, b"1500") {
-        return true;
-    }
-    if same(s, b"1800") {
-        return true;
-    }
-    same(s, b"1900")
+    RESERVED.iter().any(|code| same(s, code))
 }
 
 // Whether s is a labeler code.
@@ -131,13 +79,12 @@ pub fn is_labeler_code(s: &[u8]) -> bool
     ensures { result ≡ is_labeler_code s.now }
 {
     if text_scan::all_digits(s) {
-        if s.len() == 4 {
-            return !is_reserved(s);
+        match s.len() {
+            4 => !is_reserved(s),
+            5 => s[0] != b'0',
+            _ => false,
         }
-        if s.len() == 5 {
-            return s[0] != 48;
-        }
-        return false;
+    } else {
+        false
     }
-    false
 }

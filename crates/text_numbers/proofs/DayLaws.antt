@@ -8,6 +8,7 @@ use native.Mathlib.Omega.{arith}
 use borrow.Author.Tests.{ne_eqb, le-leb, lt-leb}
 use lib.Dec.{eqb, leb}
 use lib.ListN.{length, take, drop, get_or, length-take}
+use Rattle.text_scan.specs.Choice.{not}
 use Rattle.text_scan.specs.Bytes.{is_digit}
 use Rattle.text_scan.specs.Lists.{every}
 use Rattle.text_scan.proofs.Tests.{under, over, within}
@@ -16,11 +17,11 @@ use Rattle.text_numbers.specs.Numbers.{decimal_of}
 use Rattle.text_numbers.specs.Days.{is_leap, month_lengths, month_length, is_date, is_day}
 
 module _ (y : ℕ) where
-  pub common_year : (y % 4 ≡ 0 → ⊥) → false ≡ is_leap y
+  pub common_year : (y % 4 ≡ 0 → ⊥) → eqb (y % 4) 0 ≡ is_leap y
   unfolding is_leap
   common_year h = rw (ne_eqb _ 0 h)
 
-  pub fourth_year : y % 4 ≡ 0 → (y % 100 ≡ 0 → ⊥) → true ≡ is_leap y
+  pub fourth_year : y % 4 ≡ 0 → (y % 100 ≡ 0 → ⊥) → not (eqb (y % 100) 0) ≡ is_leap y
   unfolding is_leap
   fourth_year h g = rw (h, ne_eqb _ 0 g)
 

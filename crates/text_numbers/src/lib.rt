@@ -13,10 +13,7 @@ const MONTH_LENGTHS: [u32; 12] = [31, 28, 31, 30, 31, 30, 31, 31, 30, 31, 30, 31
 fn digit(b: u8) -> u32
     ensures { result ≡ b - 48 }
 {
-    if b < 48 {
-        return 0;
-    }
-    (b - 48) as u32
+    b.saturating_sub(b'0') as u32
 }
 
 // The value of at most nine digits.
@@ -25,15 +22,13 @@ fn value(s: &[u8]) -> u32
     ensures { result ≡ decimal_of s.now }
 {
     let mut v: u32 = 0;
-    let mut i = 0;
-    while i < s.len() {
-        v = v * 10 + digit(s[i]);
-        i += 1;
+    for b in s {
+        v = v * 10 + digit(*b);
     }
     v
 }
 
-// The value of a version number, or 0 where s is none.
+// The value of a version number, or 0 where s is none: no Option, since `version_of` promises the 0.
 pub fn version(s: &[u8]) -> u32
     ensures { result ≡ version_of s.now }
 {
@@ -52,13 +47,7 @@ pub fn version(s: &[u8]) -> u32
 fn is_leap(year: u32) -> bool
     ensures { result ≡ is_leap year }
 {
-    if year % 4 != 0 {
-        return false;
-    }
-    if year % 100 != 0 {
-        return true;
-    }
-    year % 400 == 0
+    year % 4 == 0 && (year % 100 != 0 || year % 400 == 0)
 }
 
 fn month_length(year: u32, month: u32) -> u32

@@ -2,13 +2,16 @@
 -- and each law is one branch of such a loop, for any property of bytes.
 -- Assumes nothing.
 use mathlib.Core.Path.{◌≡◌, refl, sym, ◌∙◌, ap}
-use mathlib.Core.Bool.{Bool, true, false}
-use mathlib.Core.List.{List, [], ◌∷◌}
+use mathlib.Core.Bool.{Bool, true, false, ◌&&◌}
+use mathlib.Core.List.{List, [], ◌∷◌, map}
 use Prim.Native.Nat.{ℕ, zero, suc, ◌+◌, ◌<◌, ◌≤◌}
 use native.Mathlib.Omega.{arith}
-use borrow.Author.Tests.{eq-eqb, ne_eqb}
+use borrow.Author.Tests.{eq-eqb, ne_eqb, eqb-true}
+use Rattle.std.proofs.lemmas.Bool.{eqb-false}
 use lib.Dec.{eqb}
-use lib.ListN.{length, take, drop, get_or, drop_of_length-le, length-drop}
+use lib.ListN.{length, take, drop, get_or, drop_of_length-le, length-drop, length-map}
+use Rattle.std.specs.List.{list_all, starts_with, zip}
+use lib.Pointwise.{pointwise}
 use Rattle.text_scan.specs.Choice.{pick, ◌and◌}
 use Rattle.text_scan.specs.Lists.{every, pairs, begins, stands, run_end, run_from}
 use Rattle.text_scan.proofs.Tests.{never, and_right, and_left}
@@ -30,6 +33,19 @@ module _ (p : ℕ → Bool) (s : List ℕ) (i : ℕ) (l : Every p s i) where
   pub every_ends : length s ≤ i → true ≡ every p s
   unfolding every
   every_ends h = sym (l ∙ rw (drop_of_length-le s h))
+
+-- the same in the library's words
+join : (t u v : Bool) → u ≡ v → (t && u) ≡ t and v
+join true u v e = e
+join false u v e = refl
+
+every_of_all : (p : ℕ → Bool) (s : List ℕ) → list_all p s ≡ every p s
+unfolding every
+every_of_all p [] = refl
+every_of_all p (x ∷ xs) = join (p x) _ _ (every_of_all p xs)
+
+pub every_told : (p : ℕ → Bool) (s : List ℕ) (t : Bool) → t ≡ list_all p s → t ≡ every p s
+every_told p s t e = e ∙ every_of_all p s
 
 -- what holds of every element holds at each position, and of each part
 pub every_at : (p : ℕ → Bool) (s : List ℕ) (i : ℕ) → every p s ≡ true → i < length s → p (get_or s i 0) ≡ true
@@ -66,6 +82,21 @@ pairs_other f (x ∷ xs) (y ∷ ys) h = next (f x y) (pairs_other f xs ys (λ e.
     next : (t : Bool) → false ≡ pairs f xs ys → false ≡ t and pairs f xs ys
     next true e = e
     next false e = refl
+
+-- the same in the library's words
+pub pairs_is : (f : ℕ → ℕ → Bool) (a b : List ℕ) → pointwise f a b ≡ pairs f a b
+unfolding pairs
+pairs_is f [] [] = refl
+pairs_is f [] (y ∷ ys) = refl
+pairs_is f (x ∷ xs) [] = refl
+pairs_is f (x ∷ xs) (y ∷ ys) = join (f x y) _ _ (pairs_is f xs ys)
+
+pub pairs_zip : (f : ℕ → ℕ → Bool) (a b : List ℕ) → length a ≡ length b → list_all (λ p. f p.0 p.1) (zip a b) ≡ pairs f a b
+unfolding pairs
+pairs_zip f [] [] h = refl
+pairs_zip f [] (y ∷ ys) h = absurd (omega arith)
+pairs_zip f (x ∷ xs) [] h = absurd (omega arith)
+pairs_zip f (x ∷ xs) (y ∷ ys) h = join (f x y) _ _ (pairs_zip f xs ys (omega arith))
 
 module _ (f : ℕ → ℕ → Bool) (a b : List ℕ) where
   module _ (i : ℕ) (l : Pairs f a b i) (n : length a ≡ length b) where
@@ -110,6 +141,45 @@ module _ (t s : List ℕ) (at j i : ℕ) (l : Left t s at j i) where
   pub text_whole : length t ≤ j → true ≡ stands t s at
   unfolding begins
   text_whole h = sym (l ∙ rw (drop_of_length-le t h))
+
+-- the same in the library's words
+swap : (a b : ℕ) → eqb a b ≡ eqb b a
+swap a b = go (eqb b a) refl
+  where
+    go : (t : Bool) → eqb b a ≡ t → eqb a b ≡ t
+    go true q = eq-eqb a b (sym (eqb-true b a q))
+    go false q = ne_eqb a b (λ e. eqb-false b a q (sym e))
+
+pub front : (t xs : List ℕ) → starts_with eqb xs t ≡ begins t xs
+unfolding begins
+front [] xs = refl
+front (t ∷ ts) [] = refl
+front (t ∷ ts) (x ∷ xs) = rw (swap t x) (join (eqb x t) _ _ (front ts xs))
+
+-- the same where k reads the bytes of s
+got : (k : ℕ → ℕ) (s : List ℕ) (i : ℕ) → i < length s → get_or (map k s) i 0 ≡ k (get_or s i 0)
+got k [] i h = absurd (omega arith)
+got k (x ∷ xs) zero h = refl
+got k (x ∷ xs) (suc i) h = got k xs i (omega arith)
+
+module _ (k : ℕ → ℕ) (t s : List ℕ) (at j i : ℕ) (l : Left t (map k s) at j i) where
+  pub read_short : j < length t → length s ≤ i → false ≡ stands t (map k s) at
+  read_short h g = text_short t (map k s) at j i l h (omega (arith, length-map s k))
+
+  pub read_whole : length t ≤ j → true ≡ stands t (map k s) at
+  read_whole = text_whole t (map k s) at j i l
+
+  module _ (h : j < length t) (g : i < length s) (b : ℕ) (e : b ≡ k (get_or s i 0)) where
+    pub read_other : (b ≡ get_or t j 0 → ⊥) → false ≡ stands t (map k s) at
+    read_other f = text_other t (map k s) at j i l h (omega (arith, length-map s k)) (λ a. f (e ∙ sym (got k s i g) ∙ a))
+
+    pub read_next : b ≡ get_or t j 0 → Left t (map k s) at (j + 1) (i + 1)
+    read_next f = text_next t (map k s) at j i l h (omega (arith, length-map s k)) (got k s i g ∙ sym e ∙ f)
+
+-- bytes that are read as they are
+pub map_same : (s : List ℕ) → map (λ b. b) s ≡ s
+map_same [] = refl
+map_same (x ∷ xs) = ap (λ (l : List ℕ). x ∷ l) (map_same xs)
 
 begins_fits : (t xs : List ℕ) → begins t xs ≡ true → length t ≤ length xs
 unfolding begins

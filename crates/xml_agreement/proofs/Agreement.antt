@@ -1,5 +1,7 @@
 -- The value reader, asked for a value of an element that was read, says what is judged of the element: the attribute of its tag, or its text.
 -- Assumes nothing.
+use Rattle.std.specs.Prelude.{Some, None, Result, Ok, Err}
+use Rattle.refusals.specs.declared.Reason.{Reason}
 use mathlib.Core.Path.{◌≡◌, refl, sym, ◌∙◌, ap, subst}
 use mathlib.Core.Bool.{true}
 use mathlib.Core.List.{List, [], ◌∷◌, ◌++◌}
@@ -9,14 +11,13 @@ use native.Mathlib.Omega.{arith}
 use borrow.Author.Tests.{eq-eqb, le-leb}
 use lib.ListN.{length, take, drop, get_or}
 use lib.Seq.{take-take}
-use Rattle.text_scan.specs.declared.Found.TheVariants.{At as EndTag}
 use Rattle.text_scan.proofs.Tests.{pick_same}
 use Rattle.text_chars.specs.Utf8.{first_bad}
 use Rattle.text_facts.specs.Strings.{equal}
 use Rattle.text_facts.proofs.StringLaws.{equal_is}
 use Rattle.xml_reader.specs.Limits.{scratch_limit, value_limit}
 use Rattle.xml_attributes.specs.declared.Tag.{Tag}
-use Rattle.xml_attributes.specs.declared.Tag.TheVariants.{Start, Empty, Refused}
+use Rattle.xml_attributes.specs.declared.Tag.TheVariants.{Start, Empty}
 use Rattle.xml_attributes.specs.Chains.{last, items, ending}
 use Rattle.xml_names.specs.Names.{name_end, name_at, name_is}
 use Rattle.xml_names.specs.ElementNames.{element_end}
@@ -26,7 +27,6 @@ use Rattle.xml_tags.proofs.Bounds.{TagWithin, tag_within}
 use Rattle.xml_steps.specs.Reading.{elements, first_of, after_of}
 use Rattle.xml_elements.specs.Elements.{elements_of}
 use Rattle.xml_nesting.proofs.Read.{Rows, rows_read}
-use Rattle.xml_values.specs.declared.Place.TheVariants.{At, Nothing}
 use Rattle.xml_values.specs.Attributes.{attribute_of}
 use Rattle.xml_texts.specs.declared.Content.TheVariants.{Ended}
 use Rattle.xml_texts.specs.Texts.{content_from, content_to, content_behind, text_place, saying, said_from, text_at, text_of}
@@ -42,6 +42,7 @@ use Rattle.xml_agreement.proofs.Names.{name_before, is_itself}
 use Rattle.xml_agreement.proofs.Reach.{Reach, EndsAt, parent_ends, parent_ends_in}
 use Rattle.xml_agreement.proofs.Whole.{Whole, empty, simple, parent}
 use Rattle.xml_agreement.proofs.Read.{whole_read, sound_read}
+use Rattle.xml_values.specs.Places.{from_to}
 
 -- an element begins with a tag without fault, which ends no later than the element
 tag_ends : (s : List ℕ) (first after : ℕ) → Whole s first after → EndsBy after (tag_at s first)
@@ -74,10 +75,10 @@ module _ (s : List ℕ) (d n : ℕ) (fits : d + n ≤ length s) (whole : Whole s
   unfolding opens
   opens_range = rw (tag_same s d n fits l) (go (tag_at s d) (tag_within s d) l closed)
     where
-      go : (t : Tag) → TagWithin d (length s) t → EndsBy (d + n) t → Closes s t → is_sound_tag r (tag_in s d n fits t) ≡ true
-      go (Start m) w e c = front_sound m w.0 e c
-      go (Empty m) w e c = front_sound m w.0 e c
-      go (Refused k) w e c = absurd e
+      go : (t : Result Tag Reason) → TagWithin d (length s) t → EndsBy (d + n) t → Closes s t → is_sound_tag r (tag_in s d n fits t) ≡ true
+      go (Ok (Start m)) w e c = front_sound m w.0 e c
+      go (Ok (Empty m)) w e c = front_sound m w.0 e c
+      go (Err k) w e c = absurd e
 
   named_range : (c : ℕ) (name : List ℕ) → bytes_in r (c ∷ name) ≡ attribute_of s d (c ∷ name)
   unfolding bytes_in place_in
@@ -85,19 +86,19 @@ module _ (s : List ℕ) (d n : ℕ) (fits : d + n ≤ length s) (whole : Whole s
 
   -- ---- a text
   -- where there is none in the document, there is none in the range
-  no_text : text_place s d ≡ Nothing → text_place r 0 ≡ Nothing → bytes_in r [] ≡ text_of s d
+  no_text : text_place s d ≡ None → text_place r 0 ≡ None → bytes_in r [] ≡ text_of s d
   unfolding bytes_in place_in
-  no_text e f = rw (f, e) (ap (text_at r) (pick_same (is_element r) Nothing))
+  no_text e f = rw (f, e) (ap (text_at r) (pick_same (is_element r) None))
 
-  place_is : (t : Tag) → tag_at s d ≡ t → text_place s d ≡ content_behind s t
+  place_is : (t : Result Tag Reason) → tag_at s d ≡ t → text_place s d ≡ content_behind s t
   unfolding text_place
   place_is t e = ap (content_behind s) (ending_is s d n fits l ∙ e)
 
-  place_in_lem : (t : Tag) → tag_at s d ≡ t → text_place r 0 ≡ content_behind r (tag_in s d n fits t)
+  place_in_lem : (t : Result Tag Reason) → tag_at s d ≡ t → text_place r 0 ≡ content_behind r (tag_in s d n fits t)
   unfolding text_place
   place_in_lem t e = ap (content_behind r) (ending_in s d n fits l ∙ ap (tag_in s d n fits) e)
 
-  module _ (a e : ℕ) (t : tag_at s d ≡ Start a) (x : Reach s a e) (y : EndsAt s e (d + n)) (same : equal (name_at s (d + 1)) (name_at s (e + 2)) ≡ true) (small : e - a ≤ value_limit) where
+  module _ (a e : ℕ) (t : tag_at s d ≡ Ok (Start a)) (x : Reach s a e) (y : EndsAt s e (d + n)) (same : equal (name_at s (d + 1)) (name_at s (e + 2)) ≡ true) (small : e - a ≤ value_limit) where
     ahead : d < a
     ahead = (subst (TagWithin d (length s)) t (tag_within s d)).0
 
@@ -110,22 +111,22 @@ module _ (s : List ℕ) (d n : ℕ) (fits : d + n ≤ length s) (whole : Whole s
     end : (e + 2 < d + n) × (get_or s (d + n - 1) 0 ≡ code ">")
     end = end_tag_closes s e (d + n) y.tag
 
-    ended : content_from s e ≡ last (EndTag e)
+    ended : content_from s e ≡ last (Some e)
     ended = content_ended s e y.inner Ended (sym y.here) refl
 
-    ended_in : content_from r (e - d) ≡ last (EndTag (e - d))
+    ended_in : content_from r (e - d) ≡ last (Some (e - d))
     ended_in =
         content_ended r (e - d) (omega (arith, range_length s d n fits, end.0, ahead, x.ahead)) Ended (sym (y.here_in d n fits (omega (arith, ahead, x.ahead)) (omega arith))) refl
 
-    text_here : text_place s d ≡ At a e
+    text_here : text_place s d ≡ from_to a e
     unfolding ending
     text_here =
-        place_is (Start a) t ∙ ap (content_to a) (x.ends ∙ ap ending ended) ∙ (rw (le-leb (e - a) value_limit small))
+        place_is (Ok (Start a)) t ∙ ap (content_to a) (x.ends ∙ ap ending ended) ∙ (rw (le-leb (e - a) value_limit small))
 
-    text_in : text_place r 0 ≡ At (a - d) (e - d)
+    text_in : text_place r 0 ≡ from_to (a - d) (e - d)
     unfolding ending
     text_in =
-        place_in_lem (Start a) t ∙ ap (content_to (a - d)) (x.ends_in d n fits ahead (omega (arith, end.0)) ∙ ap ending ended_in)
+        place_in_lem (Ok (Start a)) t ∙ ap (content_to (a - d)) (x.ends_in d n fits ahead (omega (arith, end.0)) ∙ ap ending ended_in)
         ∙ (rw (le-leb (e - d - (a - d)) value_limit (omega (arith, sym (both_less e a d (omega (arith, ahead)))))))
 
     says : said_from s a ≡ x.says ++ []
@@ -153,8 +154,8 @@ module _ (s : List ℕ) (d n : ℕ) (fits : d + n ≤ length s) (whole : Whole s
     one_element =
         let p : d + (e - d) ≡ e = omega (arith, ahead, x.ahead) in
         let sound : first_bad r ≡ length r = sound_range s d n fits (omega (arith, end.0)) (omega (arith, first_byte s d n fits l)) (omega (arith, end.1)) good in
-        let tag : tag_at r 0 ≡ Start (a - d) = tag_same s d n fits l ∙ ap (tag_in s d n fits) t in
-        let closing : end_tag_end r (e - d) ≡ EndTag n = end_tag_same s d n fits (e - d) n (omega arith) (ap (end_tag_end s) p ∙ y.tag) in
+        let tag : tag_at r 0 ≡ Ok (Start (a - d)) = tag_same s d n fits l ∙ ap (tag_in s d n fits) t in
+        let closing : end_tag_end r (e - d) ≡ Some n = end_tag_same s d n fits (e - d) n (omega arith) (ap (end_tag_end s) p ∙ y.tag) in
         rw (eq-eqb (first_bad r) (length r) sound, tag, text_in, closing, eq-eqb n (length r) (sym (range_length s d n fits))) names
 
     text_range : bytes_in r [] ≡ text_of s d
@@ -165,11 +166,11 @@ module _ (s : List ℕ) (d n : ℕ) (fits : d + n ≤ length s) (whole : Whole s
   text_agrees = go whole
     where
       go : Whole s d (d + n) → bytes_in r [] ≡ text_of s d
-      go (empty t) = no_text (place_is (Empty (d + n)) t) (place_in_lem (Empty (d + n)) t)
+      go (empty t) = no_text (place_is (Ok (Empty (d + n))) t) (place_in_lem (Ok (Empty (d + n))) t)
       go (simple a e t x y same small) = text_range a e t x y same small
       go (parent a t x) =
           let h : d < a = (subst (TagWithin d (length s)) t (tag_within s d)).0 in
-          no_text (place_is (Start a) t ∙ ap (content_to a) (parent_ends s a (d + n) x)) (place_in_lem (Start a) t ∙ ap (content_to (a - d)) (parent_ends_in s a (d + n) x d n fits h (omega arith)))
+          no_text (place_is (Ok (Start a)) t ∙ ap (content_to a) (parent_ends s a (d + n) x)) (place_in_lem (Ok (Start a)) t ∙ ap (content_to (a - d)) (parent_ends_in s a (d + n) x d n fits h (omega arith)))
 
   pub range_agrees : (name : List ℕ) → bytes_in r name ≡ judged_of s d name
   range_agrees [] = text_agrees

@@ -9,17 +9,19 @@ use native.Mathlib.Omega.{arith}
 use borrow.Author.Tests.{eqb-true}
 use lib.Dec.{eqb, ltb}
 use lib.ListN.{length, drop, get_or}
+use Rattle.std.specs.Prelude.{Option, Some, None, Result, Ok, Err}
+use Rattle.refusals.specs.declared.Reason.TheVariants.{Malformed}
+use Rattle.refusals.specs.declared.Reason.{Reason}
 use lib.Seq.{get_or-drop}
 use Rattle.text_scan.specs.Bytes.{text}
 use Rattle.text_scan.specs.Lists.{begins, stands}
 use Rattle.text_scan.proofs.Tests.{never, pick_case, and_left, and_right}
 use Rattle.xml_names.specs.Names.{space_end}
 use Rattle.xml_attributes.specs.declared.Attribute.{Attribute}
-use Rattle.xml_attributes.specs.declared.Attribute.TheVariants.{At, Nothing}
 use Rattle.xml_attributes.specs.declared.TagPart.{TagPart}
 use Rattle.xml_attributes.specs.declared.TagPart.TheVariants.{Read, Ended}
 use Rattle.xml_attributes.specs.declared.Tag.{Tag}
-use Rattle.xml_attributes.specs.declared.Tag.TheVariants.{Start, Empty, Refused}
+use Rattle.xml_attributes.specs.declared.Tag.TheVariants.{Start, Empty}
 use Rattle.xml_attributes.specs.Attributes.{attribute_at}
 use Rattle.xml_attributes.specs.Chains.{Piece, holds, ends, ending}
 use Rattle.xml_attributes.specs.Parts.{read_at, part_to, part_at, in_chain, tag_piece_at, attributes}
@@ -37,22 +39,22 @@ text_byte : (t s : List ℕ) (i k : ℕ) → stands t s i ≡ true → k < lengt
 text_byte t s i k e h = sym (get_or-drop i s k 0) ∙ begins_byte t (drop i s) k e h
 
 module _ (s : List ℕ) where
-  abbrev pub Closes : Tag → Type 0
-  Closes (Start m) = get_or s (m - 1) 0 ≡ code ">"
-  Closes (Empty m) = get_or s (m - 1) 0 ≡ code ">"
-  Closes (Refused k) = Unit {0}
+  abbrev pub Closes : Result Tag Reason → Type 0
+  Closes (Ok (Start m)) = get_or s (m - 1) 0 ≡ code ">"
+  Closes (Ok (Empty m)) = get_or s (m - 1) 0 ≡ code ">"
+  Closes (Err k) = Unit {0}
 
   abbrev PartCloses : TagPart → Type 0
-  PartCloses (Read b n v e) = Unit {0}
+  PartCloses (Read a) = Unit {0}
   PartCloses (Ended t) = Closes t
 
-  abbrev PieceCloses : Piece Tag → Type 0
+  abbrev PieceCloses : Piece (Result Tag Reason) → Type 0
   PieceCloses (holds b w) = Unit {0}
   PieceCloses (ends t) = Closes t
 
-  read_closes : (j : ℕ) (x : Attribute) → PartCloses (read_at j x)
-  read_closes j (At n v e) = tt
-  read_closes j Nothing = tt
+  read_closes : (x : Option Attribute) → PartCloses (read_at x)
+  read_closes (Some a) = tt
+  read_closes None = tt
 
   part_closes : (i : ℕ) → PartCloses (part_at s i)
   unfolding part_to
@@ -66,13 +68,13 @@ module _ (s : List ℕ) where
       (λ e.
       let a : j + 2 - 1 ≡ j + 1 = omega arith in
       ap (λ (k : ℕ). get_or s k 0) a ∙ text_byte (text "/>") s j 1 e (omega arith))
-      (λ _. pick_case PartCloses (ltb i j) _ _ (λ _. read_closes j (attribute_at s j)) (λ _. tt)))
+      (λ _. pick_case PartCloses (ltb i j) _ _ (λ _. read_closes (attribute_at s j)) (λ _. tt)))
 
   chain_closes : (i : ℕ) (x : TagPart) → PartCloses x → PieceCloses (in_chain i x)
-  chain_closes i (Read b n v e) w = tt
+  chain_closes i (Read a) w = tt
   chain_closes i (Ended t) w = w
 
   pub ending_closes : (i : ℕ) → Closes (ending (attributes s i))
   unfolding attributes tag_piece_at
   ending_closes i =
-      chain_keeps (tag_piece_at s) (Refused 7) Closes 0 (length s) (λ k t h g e. subst PieceCloses e (chain_closes k (part_at s k) (part_closes k))) tt i (omega arith)
+      chain_keeps (tag_piece_at s) (Err Malformed) Closes 0 (length s) (λ k t h g e. subst PieceCloses e (chain_closes k (part_at s k) (part_closes k))) tt i (omega arith)

@@ -1,5 +1,8 @@
 -- The pieces of a content that end inside a range of the document are the same in both, and so is what they say.
 -- Assumes nothing.
+use Rattle.std.specs.Prelude.{Option, None, Some, ℕ, Result, Ok, Err}
+use Rattle.refusals.specs.declared.Reason.TheVariants.{Unsupported, Malformed}
+use Rattle.refusals.specs.declared.Reason.{Reason}
 use mathlib.Core.Path.{◌≡◌, refl, ◌∙◌, ap, subst}
 use mathlib.Core.Bool.{Bool, true, false}
 use mathlib.Core.List.{List}
@@ -12,17 +15,13 @@ use lib.ListN.{length, get_or}
 use Rattle.text_scan.specs.Choice.{pick, ◌or◌}
 use Rattle.text_scan.specs.Bytes.{text}
 use Rattle.text_scan.specs.Lists.{stands}
-use Rattle.text_scan.specs.declared.Found.{Found}
-use Rattle.text_scan.specs.declared.Found.TheVariants.{At, Nothing}
 use Rattle.text_scan.proofs.Tests.{pick_case}
 use Rattle.xml_references.specs.Runs.{text_end}
 use Rattle.xml_references.proofs.Bounds.{text_ahead}
 use Rattle.xml_markup.specs.Comments.{comment_end}
-use Rattle.xml_markup.specs.declared.Scanned.{Scanned as Instructed}
-use Rattle.xml_markup.specs.declared.Scanned.TheVariants.{End as Over, Refused as Refusing}
 use Rattle.xml_markup.specs.Instructions.{instruction_end}
 use Rattle.xml_attributes.specs.declared.Tag.{Tag}
-use Rattle.xml_attributes.specs.declared.Tag.TheVariants.{Start as Opens, Empty as Stands, Refused as Malformed}
+use Rattle.xml_attributes.specs.declared.Tag.TheVariants.{Start as Opens, Empty as Stands}
 use Rattle.xml_tags.specs.Tags.{tag_at}
 use Rattle.xml_tags.specs.EndTags.{end_tag_end}
 use Rattle.xml_pieces.specs.declared.Kind.TheVariants.{Text, Comment, Instruction, Declaration, Start, Empty, End}
@@ -60,41 +59,41 @@ module _ (s : List ℕ) (d n : ℕ) (fits : d + n ≤ length s) where
     back : (m : ℕ) → d + i ≤ m → m ≡ d + (m - d)
     back m l = omega arith
 
-    text_moved : eqb (get_or s (d + i) 0) (code "<") ≡ false → (x : Found) → text_end s (d + i) ≡ x → Moved (found Text x)
+    text_moved : eqb (get_or s (d + i) 0) (code "<") ≡ false → (x : Option ℕ) → text_end s (d + i) ≡ x → Moved (found Text x)
     unfolding content_at piece_at text_piece_at
-    text_moved b (At m) q = λ l.
+    text_moved b (Some m) q = λ l.
         let k : m ≡ d + (m - d) = back m (text_ahead s (d + i) (omega arith) m q) in
-        rw (here, b, text_end_same s d n fits (m - d) (omega arith) i (omega arith) (q ∙ ap At k))
-    text_moved b Nothing q = tt
+        rw (here, b, text_end_same s d n fits (m - d) (omega arith) i (omega arith) (q ∙ ap Some k))
+    text_moved b None q = tt
 
     module _ (b : eqb (get_or s (d + i) 0) (code "<") ≡ true) where
-      comment_moved : stands (text "<!") s (d + i) ≡ true → (x : Found) → comment_end s (d + i) ≡ x → Moved (found Comment x)
+      comment_moved : stands (text "<!") s (d + i) ≡ true → (x : Option ℕ) → comment_end s (d + i) ≡ x → Moved (found Comment x)
       unfolding content_at piece_at markup_at bang_at
-      comment_moved a (At m) q = λ l.
+      comment_moved a (Some m) q = λ l.
           let f : d + i + 3 ≤ m = comment_long s (d + i) m q in
           let k : m ≡ d + (m - d) = back m (omega arith) in
-          let e : comment_end r i ≡ At (m - d) = comment_same s d n fits (m - d) (omega arith) i (q ∙ ap At k) in
+          let e : comment_end r i ≡ Some (m - d) = comment_same s d n fits (m - d) (omega arith) i (q ∙ ap Some k) in
           let z : stands (text "<!") r i ≡ true = text_same s d n fits (text "<!") i (omega arith) ∙ a in
           rw (here, b, z) (go (stands (text "<!--") r i) refl e)
         where
-          go : (t : Bool) → stands (text "<!--") r i ≡ t → comment_end r i ≡ At (m - d) → content_of (pick t (found Comment (comment_end r i)) (pick (stands (text "<!DOCTYPE") r i or stands (text "<![CDATA[") r i) (Refused 6) (Refused 7))) ≡ Dropped (m - d)
+          go : (t : Bool) → stands (text "<!--") r i ≡ t → comment_end r i ≡ Some (m - d) → content_of (pick t (found Comment (comment_end r i)) (pick (stands (text "<!DOCTYPE") r i or stands (text "<![CDATA[") r i) (Refused Unsupported) (Refused Malformed))) ≡ Dropped (m - d)
           go true y e = rw e
           go false y e = no_place (m - d) (comment_none r i y ∙ e)
-      comment_moved a Nothing q = tt
+      comment_moved a None q = tt
 
       module _ (a : stands (text "<!") s (d + i) ≡ false) where
         bang_none : stands (text "<!") r i ≡ false
         bang_none = text_none s d n fits (text "<!") i a
 
-        instruction_moved : stands (text "<?") s (d + i) ≡ true → (x : Instructed) → instruction_end s (d + i) ≡ x → Moved (instructed x)
+        instruction_moved : stands (text "<?") s (d + i) ≡ true → (x : Result ℕ Reason) → instruction_end s (d + i) ≡ x → Moved (instructed x)
         unfolding content_at piece_at markup_at question_at
-        instruction_moved c (Over m) q = λ l.
+        instruction_moved c (Ok m) q = λ l.
             let f : d + i + 2 ≤ m = instruction_long s (d + i) m q in
             let k : m ≡ d + (m - d) = back m (omega arith) in
-            let e : instruction_end r i ≡ Over (m - d) = instruction_same s d n fits i (m - d) (omega arith) (q ∙ ap Over k) in
+            let e : instruction_end r i ≡ Ok (m - d) = instruction_same s d n fits i (m - d) (omega arith) (q ∙ ap Ok k) in
             let z : stands (text "<?") r i ≡ true = text_same s d n fits (text "<?") i (omega arith) ∙ c in
             rw (here, b, bang_none, z, ne_eqb i 0 (λ y. omega arith), e)
-        instruction_moved c (Refusing m) q = tt
+        instruction_moved c (Err m) q = tt
 
         question_moved : stands (text "<?") s (d + i) ≡ true → Moved (question_at s (d + i))
         unfolding question_at
@@ -104,29 +103,29 @@ module _ (s : List ℕ) (d n : ℕ) (fits : d + n ≤ length s) where
           question_none : stands (text "<?") r i ≡ false
           question_none = text_none s d n fits (text "<?") i c
 
-          end_moved : stands (text "</") s (d + i) ≡ true → (x : Found) → end_tag_end s (d + i) ≡ x → Moved (found End x)
+          end_moved : stands (text "</") s (d + i) ≡ true → (x : Option ℕ) → end_tag_end s (d + i) ≡ x → Moved (found End x)
           unfolding content_at piece_at markup_at end_at
-          end_moved o (At m) q = λ l.
+          end_moved o (Some m) q = λ l.
               let f : d + i + 2 ≤ m = subst (Behind (d + i)) q (end_tag_behind s (d + i)) in
               let k : m ≡ d + (m - d) = back m (omega arith) in
-              let e : end_tag_end r i ≡ At (m - d) = end_tag_same s d n fits i (m - d) (omega arith) (q ∙ ap At k) in
+              let e : end_tag_end r i ≡ Some (m - d) = end_tag_same s d n fits i (m - d) (omega arith) (q ∙ ap Some k) in
               let z : stands (text "</") r i ≡ true = text_same s d n fits (text "</") i (omega arith) ∙ o in
               rw (here, b, bang_none, question_none, z, e)
-          end_moved o Nothing q = tt
+          end_moved o None q = tt
 
           child_moved : stands (text "</") s (d + i) ≡ false → content_at r i ≡ Other
           unfolding content_at piece_at markup_at start_at
           child_moved o = rw (here, b, bang_none, question_none, text_none s d n fits (text "</") i o) (go (tag_at r i))
             where
-              go : (t : Tag) → content_of (tagged t) ≡ Other
-              go (Opens m) = refl
-              go (Stands m) = refl
-              go (Malformed k) = refl
+              go : (t : Result Tag Reason) → content_of (tagged t) ≡ Other
+              go (Ok (Opens m)) = refl
+              go (Ok (Stands m)) = refl
+              go (Err k) = refl
 
-          tag_moved : stands (text "</") s (d + i) ≡ false → (t : Tag) → Moved (tagged t)
-          tag_moved o (Opens m) = child_moved o
-          tag_moved o (Stands m) = child_moved o
-          tag_moved o (Malformed k) = tt
+          tag_moved : stands (text "</") s (d + i) ≡ false → (t : Result Tag Reason) → Moved (tagged t)
+          tag_moved o (Ok (Opens m)) = child_moved o
+          tag_moved o (Ok (Stands m)) = child_moved o
+          tag_moved o (Err k) = tt
 
     pub piece_moved : Moved (piece_at s (d + i) Inside)
     unfolding piece_at markup_at bang_at end_at start_at text_piece_at

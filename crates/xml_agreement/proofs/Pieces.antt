@@ -1,5 +1,8 @@
 -- A piece that ends inside a range of the document, behind the range's first byte: the same in both.
 -- Assumes nothing.
+use Rattle.std.specs.Prelude.{Result, Option, None, Some, ℕ, Ok, Err}
+use Rattle.refusals.specs.declared.Reason.TheVariants.{Malformed, PastLimit}
+use Rattle.refusals.specs.declared.Reason.{Reason}
 use mathlib.Core.Path.{◌≡◌, refl, sym, ◌∙◌, ap}
 use mathlib.Core.Bool.{Bool, true, false}
 use mathlib.Core.List.{List, [], ◌∷◌, map}
@@ -12,15 +15,12 @@ use lib.ListN.{length, take, drop, get_or, length-map}
 use Rattle.text_scan.specs.Choice.{pick, ◌and◌, ◌or◌, not}
 use Rattle.text_scan.specs.Bytes.{text, lower}
 use Rattle.text_scan.specs.Lists.{stands}
-use Rattle.text_scan.specs.declared.Found.{Found}
-use Rattle.text_scan.specs.declared.Found.TheVariants.{At, Nothing}
 use Rattle.text_scan.proofs.Tests.{and_left, and_right}
 use Rattle.xml_reader.specs.Limits.{name_limit}
 use Rattle.xml_names.specs.Names.{is_space, space_end, name_end}
 use Rattle.xml_names.specs.ElementNames.{element_end}
 use Rattle.xml_names.proofs.Names.{space_least}
 use Rattle.xml_markup.specs.AnyCase.{stands_any_case}
-use Rattle.xml_markup.specs.declared.Scanned.TheVariants.{End as Over, Refused as Refusing}
 use Rattle.xml_markup.specs.Instructions.{is_target, close_end, data_end, limited, instruction_to, instruction_end}
 use Rattle.xml_tags.specs.EndTags.{closed_by, end_tag_to, end_tag_end}
 use Rattle.xml_agreement.proofs.Range.{range, byte, text_same, run_here, name_same, element_same}
@@ -45,31 +45,31 @@ module _ (s : List ℕ) where
     target : is_target s (i + 2) (name_end s (i + 2)) ≡ true
     small : leb (name_end s (i + 2) - (i + 2)) name_limit ≡ true
     spaced : is_space (get_or s (name_end s (i + 2)) 0) or stands (text "?>") s (name_end s (i + 2)) ≡ true
-    closes : close_end s (name_end s (i + 2)) ≡ At m
+    closes : close_end s (name_end s (i + 2)) ≡ Some m
 
-  instruction_parts : (i m : ℕ) → instruction_end s i ≡ Over m → Instructs i m
+  instruction_parts : (i m : ℕ) → instruction_end s i ≡ Ok m → Instructs i m
   unfolding instruction_to data_end
   instruction_parts i m e = go (stands (text "<?") s i) refl (is_target s (i + 2) (name_end s (i + 2))) refl e
     where
-      over : (k : ℕ) → Over k ≡ Over m → k ≡ m
+      over : (k : ℕ) → ◌≡◌ {A = Result ℕ Reason} (Ok k) (Ok m) → k ≡ m
       over k q = cc
 
-      refusing : {A : Type 0} (k : ℕ) → Refusing k ≡ Over m → A
+      refusing : {A : Type 0} (k : Reason) → ◌≡◌ {A = Result ℕ Reason} (Err k) (Ok m) → A
       refusing k q = absurd (let z : ◌≡◌ {A = ℕ} 0 1 = cc in omega arith)
 
-      sized : stands (text "<?") s i ≡ true → is_target s (i + 2) (name_end s (i + 2)) ≡ true → is_space (get_or s (name_end s (i + 2)) 0) or stands (text "?>") s (name_end s (i + 2)) ≡ true → (x : Found) → close_end s (name_end s (i + 2)) ≡ x → (t : Bool) → leb (name_end s (i + 2) - (i + 2)) name_limit ≡ t → limited t x ≡ Over m → Instructs i m
-      sized a b c (At k) q true l z = record { opens = a; target = b; small = l; spaced = c; closes = q ∙ ap At (over k z) }
-      sized a b c (At k) q false l z = refusing 8 z
-      sized a b c Nothing q t l z = refusing 7 z
+      sized : stands (text "<?") s i ≡ true → is_target s (i + 2) (name_end s (i + 2)) ≡ true → is_space (get_or s (name_end s (i + 2)) 0) or stands (text "?>") s (name_end s (i + 2)) ≡ true → (x : Option ℕ) → close_end s (name_end s (i + 2)) ≡ x → (t : Bool) → leb (name_end s (i + 2) - (i + 2)) name_limit ≡ t → limited t x ≡ Ok m → Instructs i m
+      sized a b c (Some k) q true l z = record { opens = a; target = b; small = l; spaced = c; closes = q ∙ ap Some (over k z) }
+      sized a b c (Some k) q false l z = refusing PastLimit z
+      sized a b c None q t l z = refusing Malformed z
 
-      spacing : stands (text "<?") s i ≡ true → is_target s (i + 2) (name_end s (i + 2)) ≡ true → (t : Bool) → is_space (get_or s (name_end s (i + 2)) 0) or stands (text "?>") s (name_end s (i + 2)) ≡ t → limited (leb (name_end s (i + 2) - (i + 2)) name_limit) (pick t (close_end s (name_end s (i + 2))) Nothing) ≡ Over m → Instructs i m
+      spacing : stands (text "<?") s i ≡ true → is_target s (i + 2) (name_end s (i + 2)) ≡ true → (t : Bool) → is_space (get_or s (name_end s (i + 2)) 0) or stands (text "?>") s (name_end s (i + 2)) ≡ t → limited (leb (name_end s (i + 2) - (i + 2)) name_limit) (pick t (close_end s (name_end s (i + 2))) None) ≡ Ok m → Instructs i m
       spacing a b true c z = sized a b c (close_end s (name_end s (i + 2))) refl (leb (name_end s (i + 2) - (i + 2)) name_limit) refl z
-      spacing a b false c z = refusing 7 z
+      spacing a b false c z = refusing Malformed z
 
-      go : (t : Bool) → stands (text "<?") s i ≡ t → (u : Bool) → is_target s (i + 2) (name_end s (i + 2)) ≡ u → pick (t and u) (limited (leb (name_end s (i + 2) - (i + 2)) name_limit) (pick (is_space (get_or s (name_end s (i + 2)) 0) or stands (text "?>") s (name_end s (i + 2))) (close_end s (name_end s (i + 2))) Nothing)) (Refusing 7) ≡ Over m → Instructs i m
+      go : (t : Bool) → stands (text "<?") s i ≡ t → (u : Bool) → is_target s (i + 2) (name_end s (i + 2)) ≡ u → pick (t and u) (limited (leb (name_end s (i + 2) - (i + 2)) name_limit) (pick (is_space (get_or s (name_end s (i + 2)) 0) or stands (text "?>") s (name_end s (i + 2))) (close_end s (name_end s (i + 2))) None)) (Err Malformed) ≡ Ok m → Instructs i m
       go true a true b z = spacing a b (is_space (get_or s (name_end s (i + 2)) 0) or stands (text "?>") s (name_end s (i + 2))) refl z
-      go true a false b z = refusing 7 z
-      go false a u b z = refusing 7 z
+      go true a false b z = refusing Malformed z
+      go false a u b z = refusing Malformed z
 
   record EndTags (i m : ℕ) : Type 0 where
     opens : stands (text "</") s i ≡ true
@@ -77,11 +77,11 @@ module _ (s : List ℕ) where
     closes : get_or s (space_end s (element_end s (i + 2))) 0 ≡ code ">"
     ends : space_end s (element_end s (i + 2)) + 1 ≡ m
 
-  end_tag_parts : (i m : ℕ) → end_tag_end s i ≡ At m → EndTags i m
+  end_tag_parts : (i m : ℕ) → end_tag_end s i ≡ Some m → EndTags i m
   unfolding end_tag_to closed_by
   end_tag_parts i m e = go (stands (text "</") s i) refl (ltb (i + 2) (element_end s (i + 2))) refl (eqb (get_or s (space_end s (element_end s (i + 2))) 0) (code ">")) refl e
     where
-      go : (t : Bool) → stands (text "</") s i ≡ t → (u : Bool) → ltb (i + 2) (element_end s (i + 2)) ≡ u → (v : Bool) → eqb (get_or s (space_end s (element_end s (i + 2))) 0) (code ">") ≡ v → pick (t and u) (pick v (At (space_end s (element_end s (i + 2)) + 1)) Nothing) Nothing ≡ At m → EndTags i m
+      go : (t : Bool) → stands (text "</") s i ≡ t → (u : Bool) → ltb (i + 2) (element_end s (i + 2)) ≡ u → (v : Bool) → eqb (get_or s (space_end s (element_end s (i + 2))) 0) (code ">") ≡ v → pick (t and u) (pick v (Some (space_end s (element_end s (i + 2)) + 1)) None) None ≡ Some m → EndTags i m
       go true a true b true c z =
           record {
             opens = a;
@@ -93,12 +93,12 @@ module _ (s : List ℕ) where
       go true a false b v c z = no_place m z
       go false a u b v c z = no_place m z
 
-  pub instruction_long : (i m : ℕ) → instruction_end s i ≡ Over m → i + 2 ≤ m
+  pub instruction_long : (i m : ℕ) → instruction_end s i ≡ Ok m → i + 2 ≤ m
   instruction_long i m e =
       let x : Instructs i m = instruction_parts i m e in
       omega (arith, close_far s (name_end s (i + 2)) m x.closes, ltb-true (i + 2) (name_end s (i + 2)) (and_left (ltb (i + 2) (name_end s (i + 2))) _ x.target))
 
-  pub end_tag_closes : (i m : ℕ) → end_tag_end s i ≡ At m → (i + 2 < m) × (get_or s (m - 1) 0 ≡ code ">")
+  pub end_tag_closes : (i m : ℕ) → end_tag_end s i ≡ Some m → (i + 2 < m) × (get_or s (m - 1) 0 ≡ code ">")
   end_tag_closes i m e =
       let x : EndTags i m = end_tag_parts i m e in
       let a : m - 1 ≡ space_end s (element_end s (i + 2)) = omega (arith, x.ends) in
@@ -147,14 +147,14 @@ module _ (s : List ℕ) (d n : ℕ) (fits : d + n ≤ length s) where
       spaced_same =
           rw (byte s d n fits (name_end r (i + 2)) (omega (arith, far, name)), text_same s d n fits (text "?>") (name_end r (i + 2)) (omega (arith, far, name)), ← name) x.spaced
 
-      instruction_here : Over j ≡ instruction_end r i
+      instruction_here : Ok j ≡ instruction_end r i
       unfolding instruction_to data_end
       instruction_here =
           let w : name_end r (i + 2) - (i + 2) ≡ name_end s (d + i + 2) - (d + i + 2) = omega (arith, name) in
-          let c : close_end r (name_end r (i + 2)) ≡ At j = close_same s d n fits j within (name_end r (i + 2)) (ap (close_end s) (sym name) ∙ x.closes) in
+          let c : close_end r (name_end r (i + 2)) ≡ Some j = close_same s d n fits j within (name_end r (i + 2)) (ap (close_end s) (sym name) ∙ x.closes) in
           rw (text_same s d n fits (text "<?") i (omega (arith, long, far)), x.opens, target_same, w, x.small, spaced_same, c)
 
-    pub instruction_same : instruction_end s (d + i) ≡ Over (d + j) → instruction_end r i ≡ Over j
+    pub instruction_same : instruction_end s (d + i) ≡ Ok (d + j) → instruction_end r i ≡ Ok j
     instruction_same e = sym (instruction_here (instruction_parts s (d + i) (d + j) e))
 
     module _ (x : EndTags s (d + i) (d + j)) where
@@ -172,12 +172,12 @@ module _ (s : List ℕ) (d n : ℕ) (fits : d + n ≤ length s) where
       space =
           ap (space_end s) element ∙ run_here s d n fits is_space (element_end r (i + 2)) (omega (arith, element, low, x.ends)) (omega (arith, x.ends, ap (space_end s) element))
 
-      end_tag_here : At j ≡ end_tag_end r i
+      end_tag_here : Some j ≡ end_tag_end r i
       unfolding end_tag_to closed_by
       end_tag_here =
           let c : get_or r (space_end r (element_end r (i + 2))) 0 ≡ code ">" = byte s d n fits (space_end r (element_end r (i + 2))) (omega (arith, space, x.ends)) ∙ ap (λ (k : ℕ). get_or s k 0) (sym space) ∙ x.closes in
           let e : space_end r (element_end r (i + 2)) + 1 ≡ j = omega (arith, space, x.ends) in
           rw (text_same s d n fits (text "</") i (omega (arith, x.named, low, x.ends)), x.opens, lt-ltb (i + 2) (element_end r (i + 2)) (omega (arith, x.named, element)), c, e)
 
-    pub end_tag_same : end_tag_end s (d + i) ≡ At (d + j) → end_tag_end r i ≡ At j
+    pub end_tag_same : end_tag_end s (d + i) ≡ Some (d + j) → end_tag_end r i ≡ Some j
     end_tag_same e = sym (end_tag_here (end_tag_parts s (d + i) (d + j) e))

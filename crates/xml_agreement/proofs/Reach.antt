@@ -1,11 +1,11 @@
 -- The content of an element, from one place to another along pieces that are no tag: in the document, and in each range that holds it.
 -- Assumes nothing.
+use Rattle.std.specs.Prelude.{None, Some}
 use mathlib.Core.Path.{◌≡◌, refl, sym, ◌∙◌, ap, subst}
 use mathlib.Core.List.{List, [], ◌++◌, append_assoc}
 use Prim.Native.Nat.{ℕ, ◌+◌, ◌-◌, ◌<◌, ◌≤◌}
 use native.Mathlib.Omega.{arith}
 use lib.ListN.{length}
-use Rattle.text_scan.specs.declared.Found.TheVariants.{At, Nothing}
 use Rattle.xml_references.specs.Decoded.{replaced, part, decoded}
 use Rattle.xml_attributes.specs.Chains.{ending}
 use Rattle.xml_pieces.specs.declared.Kind.TheVariants.{Text, Comment, Instruction, Start, Empty, End}
@@ -96,12 +96,12 @@ module _ (s : List ℕ) (p j : ℕ) (h : p < length s) (lt : p < j) where
 
 -- ---- the end tag
 pub record EndsAt (s : List ℕ) (e after : ℕ) : Type 0 where
-  pub tag : end_tag_end s e ≡ At after
+  pub tag : end_tag_end s e ≡ Some after
   pub inner : e < length s
   pub here : content_at s e ≡ Ended
   pub here_in : (d n : ℕ) (fits : d + n ≤ length s) → d < e → after ≤ d + n → content_at (range s d n fits) (e - d) ≡ Ended
 
-pub ends_at : (s : List ℕ) (e j : ℕ) → e < length s → e < j → piece_at s e Inside ≡ Piece End j → end_tag_end s e ≡ At j → EndsAt s e j
+pub ends_at : (s : List ℕ) (e j : ℕ) → e < length s → e < j → piece_at s e Inside ≡ Piece End j → end_tag_end s e ≡ Some j → EndsAt s e j
 unfolding content_at
 ends_at s e j h lt q t =
     record {
@@ -157,11 +157,11 @@ module _ (s : List ℕ) (a p j : ℕ) (h : p < length s) (lt : p < j) (x : Reach
       }
 
 module _ (s : List ℕ) (a p : ℕ) (x : Parent s a p) where
-  pub parent_ends : ending (content_from s a) ≡ Nothing
+  pub parent_ends : ending (content_from s a) ≡ None
   unfolding ending
   parent_ends = x.reach.ends ∙ ap ending (content_other s x.child x.inner Other (sym x.tag) refl)
 
-  pub parent_ends_in : (d n : ℕ) (fits : d + n ≤ length s) → d < a → p ≤ d + n → ending (content_from (range s d n fits) (a - d)) ≡ Nothing
+  pub parent_ends_in : (d n : ℕ) (fits : d + n ≤ length s) → d < a → p ≤ d + n → ending (content_from (range s d n fits) (a - d)) ≡ None
   unfolding ending
   parent_ends_in d n fits l k =
       x.reach.ends_in d n fits l (omega (arith, x.before))

@@ -1,5 +1,8 @@
 -- The elements of a document that is read are whole: piece by piece, to the end.
 -- Assumes nothing.
+use Rattle.std.specs.Prelude.{Option, None, Some, ℕ, Result, Ok, Err}
+use Rattle.refusals.specs.declared.Reason.TheVariants.{Malformed, PastLimit}
+use Rattle.refusals.specs.declared.Reason.{Reason}
 use mathlib.Core.Path.{◌≡◌, refl, sym, ◌∙◌, ap, subst}
 use mathlib.Core.Bool.{Bool, true, false}
 use mathlib.Core.List.{List}
@@ -12,21 +15,17 @@ use Rattle.text_scan.specs.Choice.{pick, ◌or◌, ◌and◌}
 use Rattle.text_scan.specs.Bytes.{text}
 use Rattle.text_scan.specs.Lists.{stands}
 use Rattle.text_scan.specs.Turns.{on, out}
-use Rattle.text_scan.specs.declared.Found.{Found}
-use Rattle.text_scan.specs.declared.Found.TheVariants.{At, Nothing}
 use Rattle.text_scan.proofs.Tests.{pick_case, and_left}
 use Rattle.text_scan.proofs.Turns.{run_keeps}
 use Rattle.text_chars.specs.Utf8.{first_bad}
 use Rattle.xml_reader.specs.Limits.{document_limit}
 use Rattle.xml_names.specs.Names.{space_end}
 use Rattle.xml_references.specs.Runs.{text_end}
-use Rattle.xml_markup.specs.declared.Scanned.{Scanned as Instructed}
-use Rattle.xml_markup.specs.declared.Scanned.TheVariants.{End as Over, Refused as Refusing}
 use Rattle.xml_markup.specs.Comments.{comment_end}
 use Rattle.xml_markup.specs.Instructions.{instruction_end}
 use Rattle.xml_declaration.specs.Declaration.{is_declaration, declaration_end}
 use Rattle.xml_attributes.specs.declared.Tag.{Tag}
-use Rattle.xml_attributes.specs.declared.Tag.TheVariants.{Start as Opens, Empty as Stands, Refused as Malformed}
+use Rattle.xml_attributes.specs.declared.Tag.TheVariants.{Start as Opens, Empty as Stands}
 use Rattle.xml_tags.specs.Tags.{tag_at}
 use Rattle.xml_tags.specs.EndTags.{end_tag_end}
 use Rattle.xml_pieces.specs.declared.Kind.{Kind}
@@ -55,30 +54,30 @@ module _ (s : List ℕ) (i : ℕ) where
   TagAt (Piece Comment j) = Unit {0}
   TagAt (Piece Instruction j) = Unit {0}
   TagAt (Piece Declaration j) = Unit {0}
-  TagAt (Piece Start j) = tag_at s i ≡ Opens j
-  TagAt (Piece Empty j) = tag_at s i ≡ Stands j
-  TagAt (Piece End j) = end_tag_end s i ≡ At j
+  TagAt (Piece Start j) = tag_at s i ≡ Ok (Opens j)
+  TagAt (Piece Empty j) = tag_at s i ≡ Ok (Stands j)
+  TagAt (Piece End j) = end_tag_end s i ≡ Some j
   TagAt (Refused n) = Unit {0}
 
-  text_no_tag : (x : Found) → TagAt (found Text x)
-  text_no_tag (At j) = tt
-  text_no_tag Nothing = tt
+  text_no_tag : (x : Option ℕ) → TagAt (found Text x)
+  text_no_tag (Some j) = tt
+  text_no_tag None = tt
 
-  comment_no_tag : (x : Found) → TagAt (found Comment x)
-  comment_no_tag (At j) = tt
-  comment_no_tag Nothing = tt
+  comment_no_tag : (x : Option ℕ) → TagAt (found Comment x)
+  comment_no_tag (Some j) = tt
+  comment_no_tag None = tt
 
-  declaration_no_tag : (x : Found) → TagAt (found Declaration x)
-  declaration_no_tag (At j) = tt
-  declaration_no_tag Nothing = tt
+  declaration_no_tag : (x : Option ℕ) → TagAt (found Declaration x)
+  declaration_no_tag (Some j) = tt
+  declaration_no_tag None = tt
 
-  is_end_tag : (x : Found) → end_tag_end s i ≡ x → TagAt (found End x)
-  is_end_tag (At j) e = e
-  is_end_tag Nothing e = tt
+  is_end_tag : (x : Option ℕ) → end_tag_end s i ≡ x → TagAt (found End x)
+  is_end_tag (Some j) e = e
+  is_end_tag None e = tt
 
-  instruction_no_tag : (x : Instructed) → TagAt (instructed x)
-  instruction_no_tag (Over j) = tt
-  instruction_no_tag (Refusing n) = tt
+  instruction_no_tag : (x : Result ℕ Reason) → TagAt (instructed x)
+  instruction_no_tag (Ok j) = tt
+  instruction_no_tag (Err n) = tt
 
   space_no_tag : (j : ℕ) → TagAt (only_space s j)
   space_no_tag j = pick_case TagAt (eqb j (length s) or eqb (get_or s j 0) 60) _ _ (λ _. tt) (λ _. tt)
@@ -94,10 +93,10 @@ module _ (s : List ℕ) (i : ℕ) where
   question_no_tag =
       pick_case TagAt (eqb i 0 and is_declaration s) _ _ (λ _. declaration_no_tag (declaration_end s)) (λ _. instruction_no_tag (instruction_end s i))
 
-  is_tag_lem : (t : Tag) → tag_at s i ≡ t → TagAt (tagged t)
-  is_tag_lem (Opens j) e = e
-  is_tag_lem (Stands j) e = e
-  is_tag_lem (Malformed n) e = tt
+  is_tag_lem : (t : Result Tag Reason) → tag_at s i ≡ t → TagAt (tagged t)
+  is_tag_lem (Ok (Opens j)) e = e
+  is_tag_lem (Ok (Stands j)) e = e
+  is_tag_lem (Err n) e = tt
 
   text_piece : (p : DocumentPart) → TagAt (text_piece_at s i p)
   unfolding text_piece_at
@@ -139,10 +138,10 @@ module _ (s : List ℕ) (r t : Reading) (w : Kept s r) (h : r.at < length s) (j 
   unfolding closing
   closing_parts e = go (is_named s r) refl (content_fits r) refl e
     where
-      go : (a : Bool) → is_named s r ≡ a → (b : Bool) → content_fits r ≡ b → pick a (pick b (on (closed r j)) (out (refused 8 r.at))) (out (refused 7 r.at)) ≡ on t → (is_named s r ≡ true) × (content_fits r ≡ true)
+      go : (a : Bool) → is_named s r ≡ a → (b : Bool) → content_fits r ≡ b → pick a (pick b (on (closed r j)) (out (refused PastLimit r.at))) (out (refused Malformed r.at)) ≡ on t → (is_named s r ≡ true) × (content_fits r ≡ true)
       go true x true y e = (x, y)
-      go true x false y e = never_on (refused 8 r.at) t e
-      go false x b y e = never_on (refused 7 r.at) t e
+      go true x false y e = never_on (refused PastLimit r.at) t e
+      go false x b y e = never_on (refused Malformed r.at) t e
 
   -- an XML declaration stands at byte 0 only, where no element is open
   no_declaration : {A : Type 0} → 0 < r.depth → piece_at s r.at Inside ≡ Piece Declaration j → j ≤ length s → A
@@ -166,10 +165,10 @@ module _ (s : List ℕ) (r t : Reading) (w : Kept s r) (h : r.at < length s) (j 
   piece_state Declaration x low f deep e =
       subst (State s) (went (passed r j) t e) (passed_state s r j w.0 lt w.2 (λ o. no_declaration o (inner Declaration x low o) low))
   piece_state Start x low f deep e =
-      subst (State s) (chosen (has_element_room r) (added r j (r.depth + 1) r.count) t (refused 8 r.at) e).1
+      subst (State s) (chosen (has_element_room r) (added r j (r.depth + 1) r.count) t (refused PastLimit r.at) e).1
       (start_state s r j w.0 lt w.2 (λ o a y. parent_start s a r.at j h lt y (inner Start x low o)) f)
   piece_state Empty x low f deep e =
-      subst (State s) (chosen (has_element_room r) (added r j r.depth r.top) t (refused 8 r.at) e).1
+      subst (State s) (chosen (has_element_room r) (added r j r.depth r.top) t (refused PastLimit r.at) e).1
       (empty_state s r j w.0 lt w.2 (λ o a y. parent_empty s a r.at j h lt y (inner Empty x low o)) f)
   piece_state End x low f deep e =
       subst (State s) (closing_on s r t j e) (closed_state s r j w.0 lt w.2 w.1 (deep refl) (ends_at s r.at j h lt (inner End x low (deep refl)) f) (closing_parts e).0 (closing_parts e).1)
@@ -215,7 +214,7 @@ module _ (s : List ℕ) (sound : length s ≤ first_bad s) where
   from_fresh : ReadWhole s (read_from s fresh)
   unfolding read_from
   from_fresh =
-      run_keeps (turn s) (refused 7 (length s)) (left s) (turn_falls s) (Kept s) (ReadWhole s)
+      run_keeps (turn s) (refused Malformed (length s)) (left s) (turn_falls s) (Kept s) (ReadWhole s)
       (λ r t w e. (turn_sound s r t w.0 e, turn_order s r t (w.0, w.1) e, turn_state s r t w e)) turn_whole fresh (fresh_sound (length s), fresh_order, fresh_state s)
 
 all_whole : (s : List ℕ) → ReadWhole s (elements_of s)

@@ -1,6 +1,7 @@
 -- Each element of a document that is read is an empty-element tag; or a start tag, a content without tags within the limit and the end tag of the
 -- same name; or it has a child element. What is known of the open elements on the way.
 -- Assumes nothing.
+use Rattle.std.specs.Prelude.{Ok}
 use mathlib.Core.Path.{◌≡◌, refl, sym, ◌∙◌, ap, subst}
 use mathlib.Core.Bool.{Bool, true, false}
 use mathlib.Core.List.{List, ◌++◌}
@@ -24,14 +25,14 @@ use Rattle.xml_nesting.proofs.InOrder.{InOrder}
 use Rattle.xml_agreement.proofs.Reach.{Reach, reach_here, reach_join, EndsAt, Parent, parent_later}
 
 pub data Whole (s : List ℕ) (first after : ℕ) : Type 0 where
-  empty : tag_at s first ≡ Stands after → Whole s first after
-  simple : (a e : ℕ) → tag_at s first ≡ Opens a → Reach s a e → EndsAt s e after → equal (name_at s (first + 1)) (name_at s (e + 2)) ≡ true → e - a ≤ value_limit → Whole s first after
-  parent : (a : ℕ) → tag_at s first ≡ Opens a → Parent s a after → Whole s first after
+  empty : tag_at s first ≡ Ok (Stands after) → Whole s first after
+  simple : (a e : ℕ) → tag_at s first ≡ Ok (Opens a) → Reach s a e → EndsAt s e after → equal (name_at s (first + 1)) (name_at s (e + 2)) ≡ true → e - a ≤ value_limit → Whole s first after
+  parent : (a : ℕ) → tag_at s first ≡ Ok (Opens a) → Parent s a after → Whole s first after
 
 -- an open element: the innermost has no child yet, or it has one
 pub data Opened (s : List ℕ) (r : Reading) (k : ℕ) : Type 0 where
-  plain : k ≡ r.top → r.top + 1 ≡ r.count → tag_at s (first_of r.rows k) ≡ Opens (after_of r.rows k) → Reach s (after_of r.rows k) r.at → Opened s r k
-  nested : tag_at s (first_of r.rows k) ≡ Opens (after_of r.rows k) → Parent s (after_of r.rows k) r.at → Opened s r k
+  plain : k ≡ r.top → r.top + 1 ≡ r.count → tag_at s (first_of r.rows k) ≡ Ok (Opens (after_of r.rows k)) → Reach s (after_of r.rows k) r.at → Opened s r k
+  nested : tag_at s (first_of r.rows k) ≡ Ok (Opens (after_of r.rows k)) → Parent s (after_of r.rows k) r.at → Opened s r k
 
 pub record State (s : List ℕ) (r : Reading) : Type 0 where
   pub done : (k : ℕ) → k < r.count → is_open r.rows r.depth r.top k ≡ false → Whole s (first_of r.rows k) (after_of r.rows k)
@@ -93,7 +94,7 @@ module _ (s : List ℕ) (r : Reading) (j : ℕ) (d : Sound (length s) r) (lt : r
         go (plain a b c x) = nested (rw (e, f) c) (rw f (child (open_deep r.rows r.depth r.top k o) (after_of r.rows k) x))
         go (nested c x) = nested (rw (e, f) c) (rw f (parent_later s (after_of r.rows k) r.at j (omega arith) x))
 
-    pub empty_state : tag_at s r.at ≡ Stands j → State s (added r j r.depth r.top)
+    pub empty_state : tag_at s r.at ≡ Ok (Stands j) → State s (added r j r.depth r.top)
     empty_state t =
         record {
           done = λ k h o. inside r.count k (λ l. still_done k l (sym (opens k (omega arith)) ∙ o))
@@ -109,7 +110,7 @@ module _ (s : List ℕ) (r : Reading) (j : ℕ) (d : Sound (length s) r) (lt : r
             let deep : 0 < r.count = omega (arith, open_deep rows' r.depth r.top k o, d.shallow) in
             omega (arith, d.inner, open_low r.rows d.above r.depth r.top k (sym (opens k deep) ∙ o))
 
-    pub start_state : tag_at s r.at ≡ Opens j → State s (added r j (r.depth + 1) r.count)
+    pub start_state : tag_at s r.at ≡ Ok (Opens j) → State s (added r j (r.depth + 1) r.count)
     start_state t =
         record {
           done = λ k h o. inside r.count k (λ l. still_done k l (sym (old k l) ∙ o)) (λ l. never (sym (new k (omega arith)) ∙ o));

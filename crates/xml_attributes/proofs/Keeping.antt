@@ -1,12 +1,15 @@
 -- The places of a tag's attributes, kept in a run of numbers as the tag is read.
 -- Assumes nothing.
+use Rattle.std.specs.Prelude.{Result}
+use Rattle.refusals.specs.declared.Reason.{Reason}
 use mathlib.Core.Path.{◌≡◌, refl, sym, ◌∙◌, ap}
 use mathlib.Core.List.{List}
-use Prim.Native.Nat.{ℕ, ◌+◌, ◌-◌, ◌<◌, ◌≤◌}
+use Prim.Native.Nat.{ℕ, ◌+◌, ◌<◌, ◌≤◌}
 use native.Mathlib.Numerals.{add-one}
 use native.Mathlib.Omega.{arith}
 use lib.ListN.{length, set, length-set, take, drop}
 use lib.Seq.{set_out, sets, sets-eq, take_at, length-take-le}
+use Rattle.xml_attributes.specs.declared.Attribute.{Attribute}
 use Rattle.xml_attributes.specs.declared.TagPart.{TagPart}
 use Rattle.xml_attributes.specs.declared.TagPart.TheVariants.{Read, Ended}
 use Rattle.xml_attributes.specs.declared.Tag.{Tag}
@@ -28,22 +31,22 @@ module _ (s : List ℕ) (at : ℕ) (starts₀ : List ℕ) (i k : ℕ) (starts : 
   keeps_out h = sym (l ∙ rw (attributes_out s i h))
 
   module _ (h : i < length s) (x : TagPart) (ex : x ≡ part_at s i) where
-    pub keeps_end : (t : Tag) → x ≡ Ended t → starts ≡ sets starts₀ 0 (items (attributes s at))
+    pub keeps_end : (t : Result Tag Reason) → x ≡ Ended t → starts ≡ sets starts₀ 0 (items (attributes s at))
     unfolding items
     keeps_end t z = sym (l ∙ rw (attributes_stop s i x ex t z h))
 
-    pub keeps_more : (b n v e : ℕ) → x ≡ Read b n v e → (m : List ℕ) → m ≡ set starts k b → Keeps s at starts₀ (e + 1) (k + 1) m
+    pub keeps_more : (a : Attribute) → x ≡ Read a → (m : List ℕ) → m ≡ set starts k a.at → Keeps s at starts₀ (a.value_end + 1) (k + 1) m
     unfolding items
-    keeps_more b n v e z m em = l ∙ rw (attributes_go s i x ex b n v e z h, add-one k, em)
+    keeps_more a z m em = l ∙ rw (attributes_go s i x ex a z h, add-one k, em)
 
 -- nothing is written behind the last place
 pub length_more : (starts₀ starts m : List ℕ) (k b : ℕ) → m ≡ set starts k b → length starts ≡ length starts₀ → length m ≡ length starts₀
 length_more starts₀ starts m k b e l = ap length e ∙ length-set starts k b ∙ l
 
 -- the number of attributes grows no faster than the position
-pub count_more : (s : List ℕ) (i k : ℕ) (x : TagPart) → x ≡ part_at s i → (b n v e : ℕ) → x ≡ Read b n v e → k ≤ i → k + 1 ≤ e + 1
-count_more s i k x ex b n v e z h =
-    omega (arith, read_behind s i x ex b n v e z, read_named s i x ex b n v e z, read_valued s i x ex b n v e z, read_closed s i x ex b n v e z)
+pub count_more : (s : List ℕ) (i k : ℕ) (x : TagPart) → x ≡ part_at s i → (a : Attribute) → x ≡ Read a → k ≤ i → k + 1 ≤ a.value_end + 1
+count_more s i k x ex a z h =
+    omega (arith, read_behind s i x ex a z, read_named s i x ex a z, read_valued s i x ex a z, read_closed s i x ex a z)
 
 -- ---- the places that are kept are the list, where there is room
 pub kept_whole : (l bs : List ℕ) → length bs ≤ length l → take (length bs) (sets l 0 bs) ≡ bs

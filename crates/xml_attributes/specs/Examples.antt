@@ -1,6 +1,6 @@
 -- Worked examples of the definitions, each computed.
 -- Assumes nothing.
-use Rattle.std.specs.Prelude.{◌≡◌, refl, [], ◌∷◌}
+use Rattle.std.specs.Prelude.{◌≡◌, refl, [], ◌∷◌, Some, None}
 use Rattle.text_scan.specs.Bytes.{text}
 use Rattle.text_scan.specs.Lists.{begins, run_end}
 use Rattle.text_scan.specs.Walk.{walk, from}
@@ -8,17 +8,16 @@ use Rattle.xml_names.specs.Names.{name_end}
 use Rattle.xml_names.specs.Values.{opened, equals_at}
 use Rattle.xml_references.specs.References.{digit_value, number, entity_named, reference_of}
 use Rattle.xml_references.specs.Runs.{value_step, value_end}
-use Rattle.xml_attributes.specs.declared.Attribute.TheVariants.{At, Nothing}
 use Rattle.xml_attributes.specs.Attributes.{attribute_to, attribute_at}
 use Rattle.xml_attributes.specs.Chains.{items, chain, chain_from}
 use Rattle.xml_attributes.specs.Parts.{part_to, tag_piece_at, attributes}
 
 -- ---- attributes
-attribute_plain : attribute_at (text "<a x = '&lt;\"'/>") 3 ≡ At 4 8 13
+attribute_plain : attribute_at (text "<a x = '&lt;\"'/>") 3 ≡ Some (record { at = 3; name_end = 4; value = 8; value_end = 13 })
 unfolding begins run_end name_end opened equals_at walk from digit_value number entity_named reference_of value_step value_end attribute_to
 attribute_plain = refl
 
-attribute_less : attribute_at (text "<a x='<'/>") 3 ≡ Nothing
+attribute_less : attribute_at (text "<a x='<'/>") 3 ≡ None
 unfolding begins run_end name_end opened equals_at walk from digit_value number entity_named reference_of value_step value_end attribute_to
 attribute_less = refl
 

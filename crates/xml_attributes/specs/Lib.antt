@@ -1,4 +1,5 @@
 pub mod Attributes
 pub mod Examples
 pub mod Parts
+pub mod Listed
 pub mod Chains

@@ -1,62 +1,57 @@
 // The attributes of a tag, one after the other, and how the tag ends.
 #![tactic(auto)]
 
+ghost use Rattle.std.specs.Iterator.{YieldsFirst, item_count};
 ghost use Rattle.std.specs.Prelude.{◌≡◌};
 ghost use Rattle.xml_attributes.specs.Attributes.{attribute_at};
+ghost use Rattle.xml_attributes.specs.Listed.{left};
 ghost use Rattle.xml_attributes.specs.Parts.{part_at};
 
-use text_scan::Found;
+use refusals::Reason;
 
-// An attribute: the end of its name, the first byte of its value, and the quote that closes it.
+// An attribute: where its name begins and ends, the first byte of its value, and the quote that closes it.
 #[derive(Clone, Copy)]
-pub enum Attribute {
-    At {
-        name_end: usize,
-        value: usize,
-        value_end: usize,
-    },
-    Nothing,
+pub struct Attribute {
+    pub at: usize,
+    pub name_end: usize,
+    pub value: usize,
+    pub value_end: usize,
 }
 
-// A tag: the place after it, or the number of a refusal.
+// A start tag or an empty-element tag, with the place after it.
 #[derive(Clone, Copy)]
 pub enum Tag {
     Start(usize),
     Empty(usize),
-    Refused(u32),
 }
 
-// What stands in a tag behind its name or behind an attribute: the next attribute, which begins at `at`, or how the tag ends.
+// What stands in a tag behind its name or behind an attribute: the next attribute, or how the tag ends.
 #[derive(Clone, Copy)]
 pub enum TagPart {
-    Read {
-        at: usize,
-        name_end: usize,
-        value: usize,
-        value_end: usize,
-    },
-    Ended(Tag),
+    Read(Attribute),
+    Ended(Result<Tag, Reason>),
 }
 
 // The attribute at `at`.
-pub fn attribute_at(s: &[u8], at: usize) -> Attribute
+pub fn attribute_at(s: &[u8], at: usize) -> Option<Attribute>
     ensures { result ≡ attribute_at s.now at }
 {
     let n = xml_names::name_end(s, at);
     if n <= at {
-        return Attribute::Nothing;
+        return None;
     }
-    let Found::At(v) = xml_names::value_start(s, n) else {
-        return Attribute::Nothing;
+    let Some(v) = xml_names::value_start(s, n) else {
+        return None;
     };
-    let Found::At(e) = xml_references::value_end(s, v, s[v - 1]) else {
-        return Attribute::Nothing;
+    let Some(e) = xml_references::value_end(s, v, s[v - 1]) else {
+        return None;
     };
-    Attribute::At {
+    Some(Attribute {
+        at,
         name_end: n,
         value: v,
         value_end: e,
-    }
+    })
 }
 
 // What stands in a tag from `i` on, behind its name or an attribute.
@@ -65,26 +60,39 @@ pub fn part_at(s: &[u8], i: usize) -> TagPart
 {
     let j = xml_names::space_end(s, i);
     if text_scan::byte(s, j) == 62 {
-        return TagPart::Ended(Tag::Start(j + 1));
+        return TagPart::Ended(Ok(Tag::Start(j + 1)));
     }
     if text_scan::text_at(s, j, b"/>") {
-        return TagPart::Ended(Tag::Empty(j + 2));
+        return TagPart::Ended(Ok(Tag::Empty(j + 2)));
     }
     if j <= i {
-        return TagPart::Ended(Tag::Refused(7));
+        return TagPart::Ended(Err(Reason::Malformed));
     }
-    let Attribute::At {
-        name_end,
-        value,
-        value_end,
-    } = attribute_at(s, j)
-    else {
-        return TagPart::Ended(Tag::Refused(7));
+    let Some(a) = attribute_at(s, j) else {
+        return TagPart::Ended(Err(Reason::Malformed));
     };
-    TagPart::Read {
-        at: j,
-        name_end,
-        value,
-        value_end,
+    TagPart::Read(a)
+}
+
+// The attributes of a tag, one after the other, from a place on that is behind its name or an attribute.
+#[derive(Clone, Copy)]
+pub struct Attributes<'a> {
+    pub s: &'a [u8],
+    pub at: usize,
+}
+
+impl Iterator for Attributes<'_> {
+    type Item = Attribute;
+
+    ghost next_gives = { YieldsFirst left };
+
+    ghost remaining = { item_count left };
+
+    fn next(&mut self) -> Option<Attribute> {
+        let TagPart::Read(a) = part_at(self.s, self.at) else {
+            return None;
+        };
+        self.at = a.value_end + 1;
+        Some(a)
     }
 }

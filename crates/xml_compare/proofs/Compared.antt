@@ -1,5 +1,6 @@
 -- A raw value against bytes, piece by piece, by what the loop of `is_value` knows; and an attribute against them.
 -- Assumes nothing.
+use Rattle.std.specs.Prelude.{Option, None, Some, ℕ}
 use mathlib.Core.Path.{◌≡◌, refl, sym, ◌∙◌, ap}
 use mathlib.Core.Bool.{Bool, true, false}
 use mathlib.Core.List.{List, [], ◌∷◌, ◌++◌}
@@ -14,8 +15,6 @@ use mir.Val.{Fits}
 use mir.Syntax.{w64}
 use Rattle.text_scan.specs.Choice.{pick, ◌and◌}
 use Rattle.text_scan.specs.Lists.{pairs, begins, stands}
-use Rattle.text_scan.specs.declared.Found.{Found}
-use Rattle.text_scan.specs.declared.Found.TheVariants.{At, Nothing}
 use Rattle.text_scan.proofs.Tests.{never, and_left, and_right}
 use Rattle.text_scan.proofs.Within.{drop_here}
 use Rattle.text_scan.proofs.Lists.{text_fits}
@@ -24,15 +23,14 @@ use Rattle.text_encode.specs.Encode.{encoded}
 use Rattle.text_chars.proofs.Chars.{char_most}
 use Rattle.text_encode.proofs.Forms.{encoded_least, encoded_most}
 use Rattle.xml_references.specs.declared.Reference.{Reference}
-use Rattle.xml_references.specs.declared.Reference.TheVariants.{Char, Nothing as NoReference}
 use Rattle.xml_references.specs.References.{entity_named, reference_of, reference_at}
 use Rattle.xml_references.specs.Decoded.{replaced, part}
 use Rattle.xml_references.proofs.Widths.{reference_char}
 use Rattle.xml_references.proofs.Replaced.{byte_kept, reference_gone}
 use Rattle.xml_values.specs.declared.Place.{Place}
-use Rattle.xml_values.specs.declared.Place.TheVariants.{At as PlaceAt, Nothing as NoPlace}
 use Rattle.xml_values.specs.Attributes.{attribute_place, attribute_of}
 use Rattle.xml_compare.specs.Compared.{text_behind}
+use Rattle.xml_values.specs.Places.{from_to}
 
 -- ---- a text in front of a list, against another list
 module _ (rest : List ℕ) where
@@ -69,11 +67,11 @@ module _ (c k : ℕ) (e : k ≡ length (encoded c)) (out : List ℕ) (w : out �
   character_length = e ∙ sym (ap length character_bytes)
 
   module _ (bytes : List ℕ) (n : ℕ) (t : Bool) (et : t ≡ stands (take k out) bytes n) where
-    pub character_there : t ≡ true → At (n + k) ≡ text_behind (encoded c) bytes n
+    pub character_there : t ≡ true → Some (n + k) ≡ text_behind (encoded c) bytes n
     unfolding text_behind
     character_there f = rw (← character_bytes, ← et, f, character_bytes, ← e)
 
-    pub character_other : t ≡ false → Nothing ≡ text_behind (encoded c) bytes n
+    pub character_other : t ≡ false → None ≡ text_behind (encoded c) bytes n
     unfolding text_behind
     character_other f = rw (← character_bytes, ← et, f)
 
@@ -82,7 +80,7 @@ module _ (c k : ℕ) (e : k ≡ length (encoded c)) (out : List ℕ) (w : out �
         omega (arith, encoded_least c m, text_fits (encoded c) bytes n (omega (arith, encoded_least c m)) (rw (← character_bytes) (sym et ∙ f)))
 
 -- ---- only '&' begins a reference
-pub no_reference : (raw : List ℕ) (i : ℕ) → i < length raw → (get_or raw i 0 ≡ code "&" → ⊥) → NoReference ≡ reference_at raw i
+pub no_reference : (raw : List ℕ) (i : ℕ) → i < length raw → (get_or raw i 0 ≡ code "&" → ⊥) → None ≡ reference_at raw i
 unfolding begins entity_named reference_of
 no_reference raw i h a = sym (rw (drop_here raw i h, ne_eqb (get_or raw i 0) (code "&") a))
 
@@ -99,8 +97,8 @@ module _ (raw bytes : List ℕ) (i n : ℕ) (l : Compared raw bytes i n) where
       go true q = let g : length bytes ≤ n = omega (arith, eqb-true n (length bytes) q) in rw (drop_of_length-le bytes g, q)
       go false q = let g : n < length bytes = omega (arith, eqb-false n (length bytes) q) in rw (drop_here bytes n g, q)
 
-  module _ (h : i < length raw) (x : Reference) (ex : x ≡ reference_at raw i) where
-    module _ (z : x ≡ NoReference) where
+  module _ (h : i < length raw) (x : Option Reference) (ex : x ≡ reference_at raw i) where
+    module _ (z : x ≡ None) where
       kept : equal (replaced 0 raw) bytes ≡ equal (get_or raw i 0 ∷ replaced 0 (drop (i + 1) raw)) (drop n bytes)
       kept = l.0 ∙ rw (byte_kept raw i h (sym ex ∙ z))
 
@@ -117,43 +115,43 @@ module _ (raw bytes : List ℕ) (i n : ℕ) (l : Compared raw bytes i n) where
         unfolding equal pairs
         compared_next d = (kept ∙ rw (drop_here bytes n g, eq-eqb (get_or raw i 0) (get_or bytes n 0) (sym d)), omega arith)
 
-    module _ (w c : ℕ) (z : x ≡ Char w c) where
-      pub code_most : c ≤ 0x10FFFF
-      code_most = char_most c (reference_char raw i w c (sym ex ∙ z))
+    module _ (found : Reference) (z : x ≡ Some found) where
+      pub code_most : found.character ≤ 0x10FFFF
+      code_most = char_most found.character (reference_char raw i found.width found.character (sym ex ∙ z))
 
-      gone : equal (replaced 0 raw) bytes ≡ equal (encoded c ++ replaced 0 (drop (i + w) raw)) (drop n bytes)
-      gone = l.0 ∙ rw (reference_gone raw i h w c (sym ex ∙ z))
+      gone : equal (replaced 0 raw) bytes ≡ equal (encoded found.character ++ replaced 0 (drop (i + found.width) raw)) (drop n bytes)
+      gone = l.0 ∙ rw (reference_gone raw i h found.width found.character (sym ex ∙ z))
 
-      module _ (y : Found) (ey : y ≡ text_behind (encoded c) bytes n) where
-        there : (m : ℕ) → y ≡ At m → (stands (encoded c) bytes n ≡ true) × (m ≡ n + length (encoded c))
+      module _ (y : Option ℕ) (ey : y ≡ text_behind (encoded found.character) bytes n) where
+        there : (m : ℕ) → y ≡ Some m → (stands (encoded found.character) bytes n ≡ true) × (m ≡ n + length (encoded found.character))
         unfolding text_behind
-        there m q = go (stands (encoded c) bytes n) refl (sym q ∙ ey)
+        there m q = go (stands (encoded found.character) bytes n) refl (sym q ∙ ey)
           where
-            go : (t : Bool) → stands (encoded c) bytes n ≡ t → At m ≡ pick t (At (n + length (encoded c))) Nothing → (stands (encoded c) bytes n ≡ true) × (m ≡ n + length (encoded c))
+            go : (t : Bool) → stands (encoded found.character) bytes n ≡ t → Some m ≡ pick t (Some (n + length (encoded found.character))) None → (stands (encoded found.character) bytes n ≡ true) × (m ≡ n + length (encoded found.character))
             go true e f = (e, cc)
             go false e f = absurd (let z : ◌≡◌ {A = ℕ} 0 1 = cc in omega arith)
 
-        pub compared_other : y ≡ Nothing → false ≡ equal (replaced 0 raw) bytes
+        pub compared_other : y ≡ None → false ≡ equal (replaced 0 raw) bytes
         unfolding text_behind equal
-        compared_other q = go (stands (encoded c) bytes n) refl (sym q ∙ ey)
+        compared_other q = go (stands (encoded found.character) bytes n) refl (sym q ∙ ey)
           where
-            go : (t : Bool) → stands (encoded c) bytes n ≡ t → Nothing ≡ pick t (At (n + length (encoded c))) Nothing → false ≡ equal (replaced 0 raw) bytes
+            go : (t : Bool) → stands (encoded found.character) bytes n ≡ t → None ≡ pick t (Some (n + length (encoded found.character))) None → false ≡ equal (replaced 0 raw) bytes
             go true e f = absurd (let z : ◌≡◌ {A = ℕ} 0 1 = cc in omega arith)
-            go false e f = sym (gone ∙ pairs_differ (replaced 0 (drop (i + w) raw)) (encoded c) (drop n bytes) e)
+            go false e f = sym (gone ∙ pairs_differ (replaced 0 (drop (i + found.width) raw)) (encoded found.character) (drop n bytes) e)
 
-        pub compared_past : (m : ℕ) → y ≡ At m → Compared raw bytes (i + w) m
+        pub compared_past : (m : ℕ) → y ≡ Some m → Compared raw bytes (i + found.width) m
         unfolding equal
         compared_past m q =
-            let p : (stands (encoded c) bytes n ≡ true) × (m ≡ n + length (encoded c)) = there m q in (
-              gone ∙ pairs_behind (replaced 0 (drop (i + w) raw)) (encoded c) (drop n bytes) p.0 ∙ rw (drop-drop (length (encoded c)) n bytes, ← p.1),
-              omega (arith, p.1, text_fits (encoded c) bytes n (omega (arith, encoded_least c code_most)) p.0),
+            let p : (stands (encoded found.character) bytes n ≡ true) × (m ≡ n + length (encoded found.character)) = there m q in (
+              gone ∙ pairs_behind (replaced 0 (drop (i + found.width) raw)) (encoded found.character) (drop n bytes) p.0 ∙ rw (drop-drop (length (encoded found.character)) n bytes, ← p.1),
+              omega (arith, p.1, text_fits (encoded found.character) bytes n (omega (arith, encoded_least found.character code_most)) p.0),
             )
 
 -- ---- an attribute that says these bytes
-module _ (s : List ℕ) (first : ℕ) (name : List ℕ) (p : Place) (bytes : List ℕ) (r : Bool) (ep : p ≡ attribute_place s first name) where
-  pub absent_is : p ≡ NoPlace → r ≡ equal (replaced 0 []) bytes → r ≡ equal (attribute_of s first name) bytes
+module _ (s : List ℕ) (first : ℕ) (name : List ℕ) (p : Option Place) (bytes : List ℕ) (r : Bool) (ep : p ≡ attribute_place s first name) where
+  pub absent_is : p ≡ None → r ≡ equal (replaced 0 []) bytes → r ≡ equal (attribute_of s first name) bytes
   unfolding replaced
   absent_is z h = h ∙ rw (sym ep ∙ z)
 
-  pub value_is : (a e : ℕ) → p ≡ PlaceAt a e → r ≡ equal (replaced 0 (part s a e)) bytes → r ≡ equal (attribute_of s first name) bytes
-  value_is a e z h = h ∙ rw (sym ep ∙ z)
+  pub value_is : (there : Place) → p ≡ Some there → r ≡ equal (replaced 0 (part s there.first there.after)) bytes → r ≡ equal (attribute_of s first name) bytes
+  value_is there z h = h ∙ rw (sym ep ∙ z)

@@ -9,30 +9,29 @@ ghost use Rattle.xml_references.specs.Decoded.{replaced};
 ghost use Rattle.xml_values.specs.Attributes.{attribute_of};
 ghost use Rattle.xml_compare.specs.Compared.{text_behind};
 
-use text_scan::Found;
 use xml_references::Reference;
 use xml_values::Place;
 
 // The place after the bytes of the character c, where they stand at n.
-fn character_end(bytes: &[u8], n: usize, c: u32) -> Found
+fn character_end(bytes: &[u8], n: usize, c: u32) -> Option<usize>
     requires { c ≤ 0x10FFFF }
     ensures { result ≡ text_behind (encoded c) bytes.now n }
 {
     let mut character = [0u8; 4];
     let k = text_encode::encode(c, &mut character, 0);
     if text_scan::text_at(bytes, n, &character[..k]) {
-        return Found::At(n + k);
+        return Some(n + k);
     }
-    Found::Nothing
+    None
 }
 
 // The reference at i, which only `&` begins.
-fn reference(raw: &[u8], i: usize) -> Reference
+fn reference(raw: &[u8], i: usize) -> Option<Reference>
     requires { i < length raw.now }
     ensures { result ≡ reference_at raw.now i }
 {
     if raw[i] != b'&' {
-        return Reference::Nothing;
+        return None;
     }
     xml_references::reference_at(raw, i)
 }
@@ -44,7 +43,7 @@ pub fn is_value(raw: &[u8], bytes: &[u8]) -> bool
     let mut i = 0;
     let mut n = 0;
     while i < raw.len() {
-        let Reference::Char(w, c) = reference(raw, i) else {
+        let Some(found) = reference(raw, i) else {
             if bytes.len() <= n {
                 return false;
             }
@@ -55,11 +54,11 @@ pub fn is_value(raw: &[u8], bytes: &[u8]) -> bool
             i += 1;
             continue;
         };
-        let Found::At(after) = character_end(bytes, n, c) else {
+        let Some(after) = character_end(bytes, n, found.character) else {
             return false;
         };
         n = after;
-        i += w;
+        i += found.width;
     }
     n == bytes.len()
 }
@@ -68,8 +67,8 @@ pub fn is_value(raw: &[u8], bytes: &[u8]) -> bool
 pub fn attribute_is(s: &[u8], first: usize, name: &[u8], bytes: &[u8]) -> bool
     ensures { result ≡ equal (attribute_of s.now first name.now) bytes.now }
 {
-    let Place::At(a, e) = xml_values::attribute_place(s, first, name) else {
+    let Some(place) = xml_values::attribute_place(s, first, name) else {
         return is_value(b"", bytes);
     };
-    is_value(&s[a..e], bytes)
+    is_value(&s[place.first..place.after], bytes)
 }

@@ -1,5 +1,6 @@
 -- The XML declaration, by the pieces that the code finds in a row; and where it ends, for callers.
 -- Assumes nothing.
+use Rattle.std.specs.Prelude.{Option, None, Some, ℕ}
 use mathlib.Core.Path.{◌≡◌, sym, ◌∙◌}
 use mathlib.Core.Bool.{Bool, true, false}
 use mathlib.Core.List.{List}
@@ -13,8 +14,6 @@ use mir.Syntax.{w64}
 use Rattle.text_scan.specs.Choice.{pick}
 use Rattle.text_scan.specs.Bytes.{text}
 use Rattle.text_scan.specs.Lists.{stands}
-use Rattle.text_scan.specs.declared.Found.{Found}
-use Rattle.text_scan.specs.declared.Found.TheVariants.{At, Nothing}
 use Rattle.text_scan.proofs.Tests.{pick_case, and_false, and_true}
 use Rattle.text_scan.proofs.Within.{inside}
 use Rattle.text_scan.proofs.Lists.{text_fits}
@@ -44,8 +43,8 @@ stands_fits false t s v h e = inside (length t) 0 (λ p. text_fits t s v p e) (�
 pub name_fits : (name s : List ℕ) (n : ℕ) (t : Bool) → t ≡ stands name s n → t ≡ true → Fits w64 n → length s < 2 ^ 64 → Fits w64 (n + length name)
 name_fits name s n t e f k l = inside (length name) 0 (λ p. omega (arith, text_fits name s n p (sym e ∙ f))) (λ p. omega arith)
 
-module _ (s : List ℕ) (m : ℕ) (x : Found) (ex : x ≡ value_start s m) (v : ℕ) (z : x ≡ At v) where
-  bounds : Within m (length s) (At v)
+module _ (s : List ℕ) (m : ℕ) (x : Option ℕ) (ex : x ≡ value_start s m) (v : ℕ) (z : x ≡ Some v) where
+  bounds : Within m (length s) (Some v)
   bounds = rw z at (rw (← ex) at (value_within s m))
 
   pub value_behind : 1 ≤ v
@@ -72,16 +71,16 @@ module _ (s : List ℕ) (at n : ℕ) (en : n ≡ space_end s at) (any : Bool) (n
     unfolding setting_end
     other_name f = rw (← en, ← et, f) (rw (and_false (ltb at n)))
 
-    module _ (f : t ≡ true) (x : Found) (ex : x ≡ value_start s (n + length name)) where
+    module _ (f : t ≡ true) (x : Option ℕ) (ex : x ≡ value_start s (n + length name)) where
       named : setting_end any name value s at ≡ valued any value s at x
       unfolding setting_end
       named = rw (← en, lt-ltb at n behind, ← et, f, ← ex)
 
-      pub no_value : x ≡ Nothing → at ≡ setting_end any name value s at
+      pub no_value : x ≡ None → at ≡ setting_end any name value s at
       unfolding valued
       no_value z = sym (named ∙ rw z)
 
-      module _ (v : ℕ) (z : x ≡ At v) where
+      module _ (v : ℕ) (z : x ≡ Some v) where
         module _ (u : Bool) (eu : u ≡ stands_in any value s v) where
           pub other_value : u ≡ false → at ≡ setting_end any name value s at
           unfolding valued
@@ -125,7 +124,7 @@ module _ (s : List ℕ) where
 
 -- ---- the whole
 module _ (s : List ℕ) (o : Bool) (eo : o ≡ stands (text "<?xml") s 0) where
-  pub no_declaration : o ≡ false → Nothing ≡ declaration_end s
+  pub no_declaration : o ≡ false → None ≡ declaration_end s
   unfolding declaration_end
   no_declaration f = rw (← eo, f)
 
@@ -134,19 +133,19 @@ module _ (s : List ℕ) (o : Bool) (eo : o ≡ stands (text "<?xml") s 0) where
     unfolding declaration_end
     opens = rw (← eo, y, ← ev)
 
-    pub no_version : v ≤ 5 → Nothing ≡ declaration_end s
+    pub no_version : v ≤ 5 → None ≡ declaration_end s
     unfolding versioned
     no_version h = sym (opens ∙ rw (le-ltb 5 v h))
 
     module _ (h : 5 < v) (e : ℕ) (ee : e ≡ encoding_end s v) (a : ℕ) (ea : a ≡ standalone_end s e) (q : ℕ) (eq : q ≡ space_end s a) (t : Bool) (et : t ≡ stands (text "?>") s q) where
-      at_close : declaration_end s ≡ pick t (At (q + 2)) Nothing
+      at_close : declaration_end s ≡ pick t (Some (q + 2)) None
       unfolding versioned closing_end
       at_close = opens ∙ rw (lt-ltb 5 v h, ← ee, ← ea, ← eq, ← et)
 
-      pub no_close : t ≡ false → Nothing ≡ declaration_end s
+      pub no_close : t ≡ false → None ≡ declaration_end s
       no_close f = sym (at_close ∙ rw f)
 
-      pub declaration_whole : t ≡ true → At (q + 2) ≡ declaration_end s
+      pub declaration_whole : t ≡ true → Some (q + 2) ≡ declaration_end s
       declaration_whole f = sym (at_close ∙ rw f)
 
 pub close_fits : (s : List ℕ) (q : ℕ) (t : Bool) → t ≡ stands (text "?>") s q → t ≡ true → length s < 2 ^ 64 → Fits w64 (q + 2)

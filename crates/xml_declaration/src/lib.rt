@@ -4,8 +4,6 @@
 ghost use Rattle.std.specs.Prelude.{◌≡◌};
 ghost use Rattle.xml_declaration.specs.Declaration.{is_declaration, stands_in, setting_end, standalone_end, declaration_end};
 
-use text_scan::Found;
-
 // Whether the text t stands at `at`, as it is or in any case of its letters.
 fn text_in_at(s: &[u8], at: usize, t: &[u8], any: bool) -> bool
     ensures { result ≡ stands_in any t.now s.now at }
@@ -25,7 +23,7 @@ fn setting_end(s: &[u8], at: usize, name: &[u8], value: &[u8], any: bool) -> usi
         return at;
     }
     if text_scan::text_at(s, n, name) {
-        let Found::At(v) = xml_names::value_start(s, n + name.len()) else {
+        let Some(v) = xml_names::value_start(s, n + name.len()) else {
             return at;
         };
         if text_in_at(s, v, value, any) {
@@ -65,20 +63,20 @@ pub fn is_declaration(s: &[u8]) -> bool
 }
 
 // The place after the XML declaration.
-pub fn declaration_end(s: &[u8]) -> Found
+pub fn declaration_end(s: &[u8]) -> Option<usize>
     ensures { result ≡ declaration_end s.now }
 {
     if text_scan::text_at(s, 0, b"<?xml") {
         let v = setting_end(s, 5, b"version", b"1.0", false);
         if v <= 5 {
-            return Found::Nothing;
+            return None;
         }
         let e = setting_end(s, v, b"encoding", b"utf-8", true);
         let q = xml_names::space_end(s, standalone_end(s, e));
         if text_scan::text_at(s, q, b"?>") {
-            return Found::At(q + 2);
+            return Some(q + 2);
         }
-        return Found::Nothing;
+        return None;
     }
-    Found::Nothing
+    None
 }

@@ -9,8 +9,9 @@ use Rattle.text_scan.specs.Choice.{◌or◌}
 use Rattle.text_scan.specs.Lists.{some}
 use Rattle.text_scan.proofs.Tests.{never, and_left, and_right}
 use Rattle.sort_compare.specs.declared.By.{By}
-use Rattle.sort_compare.specs.declared.Order.TheVariants.{Less}
-use Rattle.sort_compare.specs.Order.{order, in_order}
+use Rattle.std.specs.declared.cmp.Ordering.TheVariants.{Less}
+use Rattle.std.specs.Ordering.{is_le}
+use Rattle.sort_compare.specs.Order.{order}
 use Rattle.xml_names.specs.Names.{name_at}
 use Rattle.sort_compare.specs.Keys.{key_at}
 use Rattle.sort_compare.proofs.Ordering.{same_less, in_order_lem, order_refl, order_same, less_before}
@@ -29,7 +30,7 @@ module _ (s : List ℕ) where
       go false f = refl
 
   -- a name that is not after another is before it or the same
-  called_not : (t : List ℕ) (b : ℕ) → in_order (order t (name_at s b)) ≡ true → is_called s t b ≡ false → order t (name_at s b) ≡ Less
+  called_not : (t : List ℕ) (b : ℕ) → is_le (order t (name_at s b)) ≡ true → is_called s t b ≡ false → order t (name_at s b) ≡ Less
   called_not t b e f =
       in_order_lem (order t (name_at s b)) e (λ g. g)
       (λ g. never (sym (same_pairs t) ∙ rw (← order_same t (name_at s b) g) at f))
@@ -39,7 +40,7 @@ module _ (s : List ℕ) where
   unfolding some rising
   none_called t b [] e f = rw (not_called t b e)
   none_called t b (c ∷ cs) e f =
-      let g : in_order (order (name_at s b) (name_at s c)) ≡ true = and_left (leads (key_at By.Name s) b (c ∷ cs)) (rising (key_at By.Name s) (c ∷ cs)) f in
+      let g : is_le (order (name_at s b) (name_at s c)) ≡ true = and_left (leads (key_at By.Name s) b (c ∷ cs)) (rising (key_at By.Name s) (c ∷ cs)) f in
       rw (not_called t b e)
       (none_called t c cs (less_before t (name_at s b) (name_at s c) e g) (and_right (leads (key_at By.Name s) b (c ∷ cs)) (rising (key_at By.Name s) (c ∷ cs)) f))
 
@@ -50,7 +51,7 @@ module _ (s : List ℕ) where
       let h : rising (key_at By.Name s) (c ∷ cs) ≡ true = and_right (leads (key_at By.Name s) b (c ∷ cs)) (rising (key_at By.Name s) (c ∷ cs)) f in
       go (is_called s (name_at s b) c) refl (and_left (leads (key_at By.Name s) b (c ∷ cs)) (rising (key_at By.Name s) (c ∷ cs)) f) h (rising_twice c cs h)
     where
-      go : (u : Bool) → is_called s (name_at s b) c ≡ u → in_order (order (name_at s b) (name_at s c)) ≡ true → rising (key_at By.Name s) (c ∷ cs) ≡ true → twice s (c ∷ cs) ≡ neighbours_from s c cs → some (is_called s (name_at s b)) (c ∷ cs) or twice s (c ∷ cs) ≡ is_called s (name_at s b) c or neighbours_from s c cs
+      go : (u : Bool) → is_called s (name_at s b) c ≡ u → is_le (order (name_at s b) (name_at s c)) ≡ true → rising (key_at By.Name s) (c ∷ cs) ≡ true → twice s (c ∷ cs) ≡ neighbours_from s c cs → some (is_called s (name_at s b)) (c ∷ cs) or twice s (c ∷ cs) ≡ is_called s (name_at s b) c or neighbours_from s c cs
       go true e g h k = rw e
       go false e g h k = rw (none_called (name_at s b) c cs (called_not (name_at s b) c g e) h, e) k
 

@@ -7,24 +7,15 @@ ghost use Rattle.sort_places.specs.Sorting.{Sorted};
 ghost use Rattle.xml_distinct.specs.Repeats.{twice, PlacesLeft};
 ghost use Rattle.xml_distinct.specs.Neighbours.{neighbours};
 
-use sort_compare::{By, Order};
+use sort_compare::By;
 
 // Whether the names at two neighbours are the same.
 fn has_same_neighbours(s: &[u8], a: &[u32]) -> bool
     ensures { result ≡ neighbours s.now a.now }
 {
-    let mut i = 1;
-    while i < a.len() {
-        match sort_compare::compare(By::Name, s, a[i - 1], a[i]) {
-            Order::Same => return true,
-            Order::Less => {
-                i += 1;
-                continue;
-            }
-            Order::More => {
-                i += 1;
-                continue;
-            }
+    for i in 1..a.len() {
+        if sort_compare::compare(By::Name, s, a[i - 1], a[i]).is_eq() {
+            return true;
         }
     }
     false

@@ -1,5 +1,6 @@
 -- White space before '<' is a piece of text, in each part of the document.
 -- Assumes nothing.
+use Rattle.std.specs.Prelude.{Some}
 use mathlib.Core.Path.{◌≡◌, refl, sym, ◌∙◌, ap}
 use mathlib.Core.Bool.{Bool, true, false}
 use mathlib.Core.List.{List}
@@ -9,7 +10,6 @@ use native.Mathlib.Omega.{arith}
 use borrow.Author.Tests.{eq-eqb, ne_eqb}
 use lib.Dec.{eqb}
 use lib.ListN.{length, get_or}
-use Rattle.text_scan.specs.declared.Found.TheVariants.{At}
 use Rattle.text_scan.proofs.Lists.{run_goes, run_stops, run_ends}
 use Rattle.text_scan.proofs.Tests.{never, or_true}
 use Rattle.text_scan.proofs.Within.{inside, there}
@@ -49,7 +49,7 @@ module _ (s : List ℕ) where
         absurd (inside (length s) at (λ g. omega (arith, run_stops is_space s at at refl false g q refl)) (λ g. omega (arith, run_ends is_space s at at refl g)))
 
     module _ (b : ℕ) (eb : b ≡ get_or s e 0) (z : b ≡ code "<") where
-      ends_there : text_end s at ≡ At e
+      ends_there : text_end s at ≡ Some e
       ends_there =
           over_spaces (length s) at (omega arith) ∙ ap (text_end s) (sym ee)
           ∙ sym (text_less s e e (text_start s e) (there s e (code "<") (omega arith) (sym eb ∙ z)) (sym eb ∙ z))

@@ -1,5 +1,10 @@
 -- The walk over the pieces, by what its loop knows: the reading from the start is the reading from here, and it is sound.
 -- Assumes nothing.
+use Rattle.std.specs.Prelude.{Result, Ok, Err}
+use Rattle.refusals.specs.declared.Reason.TheVariants.{Malformed}
+use Rattle.refusals.specs.declared.Reason.{Reason}
+use Rattle.refusals.specs.declared.Refusal.{Refusal}
+use Rattle.refusals.specs.Numbers.{refuses}
 use mathlib.Core.Path.{◌≡◌, refl, sym, ◌∙◌, ap, subst}
 use mathlib.Core.Bool.{Bool, true, false}
 use mathlib.Core.List.{List}
@@ -21,10 +26,6 @@ use Rattle.xml_pieces.specs.declared.Scanned.{Scanned}
 use Rattle.xml_pieces.specs.declared.Scanned.TheVariants.{Piece, Refused as Refusing}
 use Rattle.xml_pieces.specs.Pieces.{piece_at}
 use Rattle.xml_pieces.proofs.Within.{Within, piece_within, end_inside}
-use Rattle.xml_elements.specs.declared.Answer.{Answer}
-use Rattle.xml_elements.specs.declared.Answer.TheVariants.{Elements, Refused}
-use Rattle.xml_steps.specs.declared.Stepped.{Stepped}
-use Rattle.xml_steps.specs.declared.Stepped.TheVariants.{On, Stopped}
 use Rattle.xml_steps.specs.Reading.{Reading, Read, refused, fresh, document_part, by_piece, elements}
 use Rattle.xml_elements.specs.Elements.{at_end, turn, left, read_from}
 use Rattle.xml_steps.specs.Walked.{reading, turn_of, Sound, Steps}
@@ -47,11 +48,11 @@ turn_falls s r t e = go (ltb r.at (length s)) refl e
 module _ (s : List ℕ) (r : Reading) where
   reads_on : (t : Reading) → turn s r ≡ on t → read_from s r ≡ read_from s t
   unfolding read_from
-  reads_on t e = run_on (turn s) (refused 7 (length s)) (left s) (turn_falls s) r t e
+  reads_on t e = run_on (turn s) (refused Malformed (length s)) (left s) (turn_falls s) r t e
 
   reads_out : (x : Read) → turn s r ≡ out x → read_from s r ≡ x
   unfolding read_from
-  reads_out x e = run_out (turn s) (refused 7 (length s)) (left s) (turn_falls s) r x e
+  reads_out x e = run_out (turn s) (refused Malformed (length s)) (left s) (turn_falls s) r x e
 
 -- ---- the loop
 abbrev pub Told : List ℕ → Reader → List ℕ → Type 0
@@ -79,15 +80,15 @@ module _ (s : List ℕ) (d : Reader) (numbers : List ℕ) (w : Told s d numbers)
   unfolding turn reading
   told_end h = w.0 ∙ reads_out s (reading d numbers) (at_end s (reading d numbers)) (rw (le-ltb _ _ h))
 
-  pub open_left : length s ≤ d.at → 0 < d.depth → read_of (Refused 7 (length s)) numbers ≡ read_from s fresh
+  pub open_left : length s ≤ d.at → 0 < d.depth → read_of (refuses Malformed (length s)) numbers ≡ read_from s fresh
   unfolding reading read_of
   open_left h g = sym (told_end h ∙ rw (ne_eqb d.depth 0 (λ e. omega arith)))
 
-  pub no_root : length s ≤ d.at → d.count < 1 → read_of (Refused 7 (length s)) numbers ≡ read_from s fresh
+  pub no_root : length s ≤ d.at → d.count < 1 → read_of (refuses Malformed (length s)) numbers ≡ read_from s fresh
   unfolding reading read_of
   no_root h g = sym (told_end h ∙ rw (le-ltb 0 d.count (omega arith), and_false (eqb d.depth 0)))
 
-  pub all_read : length s ≤ d.at → d.depth ≤ 0 → 1 ≤ d.count → read_of (Elements d.count) numbers ≡ read_from s fresh
+  pub all_read : length s ≤ d.at → d.depth ≤ 0 → 1 ≤ d.count → read_of (Ok d.count) numbers ≡ read_from s fresh
   unfolding reading read_of
   all_read h g k =
       let q : d.depth ≡ 0 = omega arith in
@@ -98,7 +99,7 @@ module _ (s : List ℕ) (d : Reader) (numbers : List ℕ) (w : Told s d numbers)
     unfolding turn reading
     this_turn = rw (lt-ltb _ _ h, ← ex)
 
-    pub piece_refused_lem : (n : ℕ) (r : Answer) → x ≡ Refusing n → r ≡ piece_refused x d.at → read_of r numbers ≡ read_from s fresh
+    pub piece_refused_lem : (n : Reason) (r : Result ℕ Refusal) → x ≡ Refusing n → r ≡ piece_refused x d.at → read_of r numbers ≡ read_from s fresh
     unfolding by_piece reading read_of
     piece_refused_lem n r e f =
         rw (f, e) (sym (w.0 ∙ reads_out s (reading d numbers) (refused n d.at) (this_turn ∙ ap (by_piece s (reading d numbers)) e)))
@@ -120,16 +121,16 @@ module _ (s : List ℕ) (d : Reader) (numbers : List ℕ) (w : Told s d numbers)
                 (part_deep d.count d.depth (end_inside s d.at j _ z).0, (end_inside s d.at j _ z).1);
           }
 
-      module _ (short : length s ≤ document_limit) (y : Stepped) (numbers' : List ℕ) (ey : turn_of d.at y numbers' ≡ by_piece s (reading d numbers) (Piece k j)) where
+      module _ (short : length s ≤ document_limit) (y : Result Reader Reason) (numbers' : List ℕ) (ey : turn_of d.at y numbers' ≡ by_piece s (reading d numbers) (Piece k j)) where
         next_turn : turn s (reading d numbers) ≡ turn_of d.at y numbers'
         next_turn = this_turn ∙ ap (by_piece s (reading d numbers)) e ∙ sym ey
 
-        pub step_stopped : (n : ℕ) (r : Answer) → y ≡ Stopped n → r ≡ stop_of y d.at → read_of r numbers' ≡ read_from s fresh
+        pub step_stopped : (n : Reason) (r : Result ℕ Refusal) → y ≡ Err n → r ≡ stop_of y d.at → read_of r numbers' ≡ read_from s fresh
         unfolding turn_of read_of
         step_stopped n r q f =
             rw (f, q) (sym (w.0 ∙ reads_out s (reading d numbers) (refused n d.at) (next_turn ∙ rw q)))
 
-        pub told_again : (d' : Reader) → y ≡ On d' → Told s d' numbers'
+        pub told_again : (d' : Reader) → y ≡ Ok d' → Told s d' numbers'
         unfolding turn_of
         told_again d' q =
             let on' : turn_of d.at y numbers' ≡ on (reading d' numbers') = rw q in (
@@ -137,13 +138,13 @@ module _ (s : List ℕ) (d : Reader) (numbers : List ℕ) (w : Told s d numbers)
               piece_sound s (reading d numbers) (reading d' numbers') j w.1 (steps short).ahead (steps short).inside k (λ z. ((steps short).ends z).0) (sym ey ∙ on'),
             )
 
-        pub told_less : (d' : Reader) → y ≡ On d' → length s - d'.at < length s - d.at
+        pub told_less : (d' : Reader) → y ≡ Ok d' → length s - d'.at < length s - d.at
         unfolding turn_of reading
         told_less d' q =
             turn_falls s (reading d numbers) (reading d' numbers') (next_turn ∙ rw q)
 
 -- ---- what every reading has
-pub refused_never : {P : Type 0} (s : List ℕ) (r t : Reading) (n : ℕ) → by_piece s r (Refusing n) ≡ on t → P
+pub refused_never : {P : Type 0} (s : List ℕ) (r t : Reading) (n : Reason) → by_piece s r (Refusing n) ≡ on t → P
 unfolding by_piece
 refused_never s r t n e = never_on (refused n r.at) t e
 
@@ -177,4 +178,4 @@ turn_rowed s r x d e = go (ltb r.at (length s)) e
 pub reading_rowed : (s : List ℕ) → Rowed (read_from s fresh)
 unfolding read_from
 reading_rowed s =
-    run_keeps (turn s) (refused 7 (length s)) (left s) (turn_falls s) (Sound (length s)) Rowed (turn_sound s) (turn_rowed s) fresh (fresh_sound (length s))
+    run_keeps (turn s) (refused Malformed (length s)) (left s) (turn_falls s) (Sound (length s)) Rowed (turn_sound s) (turn_rowed s) fresh (fresh_sound (length s))

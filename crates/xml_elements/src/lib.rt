@@ -9,37 +9,42 @@ ghost use Rattle.xml_steps.specs.Reading.{fresh, document_part, elements as elem
 ghost use Rattle.xml_elements.specs.Walked.{read_of, piece_refused, stop_of};
 ghost use Rattle.xml_steps.specs.Walked.{Roomy};
 
+use refusals::{Reason, Refusal};
 use xml_pieces::{Kind, Scanned};
 use xml_reader::Reader;
-use xml_steps::Stepped;
 
 // Bytes of a document that is read with the small room.
 const FEW: usize = 2048;
 
-// How many elements a document has, or a refusal's number and place.
-#[derive(Clone, Copy)]
-pub enum Answer {
-    Elements(usize),
-    Refused(u32, usize),
-}
-
 // What a refused piece answers.
-fn refusal(got: Scanned, at: usize) -> Answer
+fn refusal(got: Scanned, at: usize) -> Result<usize, Refusal>
     ensures { result ≡ piece_refused got at }
 {
     match got {
-        Scanned::Piece(_, _) => Answer::Refused(7, at),
-        Scanned::Refused(number) => Answer::Refused(number, at),
+        Scanned::Piece(_, _) => Err(Refusal {
+            reason: Reason::Malformed,
+            value: at,
+        }),
+        Scanned::Refused(number) => Err(Refusal {
+            reason: number,
+            value: at,
+        }),
     }
 }
 
 // What a refused step answers.
-fn stop(next: Stepped, at: usize) -> Answer
+fn stop(next: Result<Reader, Reason>, at: usize) -> Result<usize, Refusal>
     ensures { result ≡ stop_of next at }
 {
     match next {
-        Stepped::On(_) => Answer::Refused(7, at),
-        Stepped::Stopped(number) => Answer::Refused(number, at),
+        Ok(_) => Err(Refusal {
+            reason: Reason::Malformed,
+            value: at,
+        }),
+        Err(number) => Err(Refusal {
+            reason: number,
+            value: at,
+        }),
     }
 }
 
@@ -59,7 +64,7 @@ fn scan(s: &[u8], at: usize, count: usize, depth: usize) -> Scanned
 }
 
 // All pieces of a document, with the rows in the front of a lent run of numbers.
-fn walk(s: &[u8], rows: &mut [u32]) -> Answer
+fn walk(s: &[u8], rows: &mut [u32]) -> Result<usize, Refusal>
     requires { (length s.now ≤ document_limit) × Roomy (length s.now) rows.old }
     ensures { (read_of result rows.new ≡ read_from s.now fresh) × (length rows.new ≡ length rows.old) }
 {
@@ -71,18 +76,24 @@ fn walk(s: &[u8], rows: &mut [u32]) -> Answer
             return refusal(got, at);
         };
         let next = xml_steps::step(s, reader, kind, after, rows);
-        let Stepped::On(further) = next else {
+        let Ok(further) = next else {
             return stop(next, at);
         };
         reader = further;
     }
     if 0 < reader.depth {
-        return Answer::Refused(7, s.len());
+        return Err(Refusal {
+            reason: Reason::Malformed,
+            value: s.len(),
+        });
     }
     if reader.count < 1 {
-        return Answer::Refused(7, s.len());
+        return Err(Refusal {
+            reason: Reason::Malformed,
+            value: s.len(),
+        });
     }
-    Answer::Elements(reader.count)
+    Ok(reader.count)
 }
 
 // Writes the four numbers of element k to the table.
@@ -102,39 +113,40 @@ fn put_rows(rows: &[u32], n: usize, table: &mut [u32])
     requires { (4 * n ≤ length rows.now) × (4 * n ≤ length table.old) }
     ensures { table.new ≡ take (4 * n) rows.now ++ drop (4 * n) table.old }
 {
-    let mut k = 0;
-    while k < n {
+    for k in 0..n {
         put_row(rows, k, table);
-        k += 1;
     }
 }
 
 // The rows go to the table, where it has room for them.
-fn deliver(rows: &[u32], n: usize, elements: &mut [u32]) -> Answer
+fn deliver(rows: &[u32], n: usize, elements: &mut [u32]) -> Result<usize, Refusal>
     requires { (4 * n ≤ length rows.now) × (n ≤ elements_limit) }
     ensures { ElementsLeft (elements' n (take (4 * n) rows.now)) elements.old result elements.new }
 {
     if elements.len() < 4 * n {
-        return Answer::Refused(9, n);
+        return Err(Refusal {
+            reason: Reason::ShortElements,
+            value: n,
+        });
     }
     put_rows(rows, n, elements);
-    Answer::Elements(n)
+    Ok(n)
 }
 
 // Reads the pieces of a document, with room for the rows lent.
-fn read_pieces(document: &[u8], rows: &mut [u32], elements: &mut [u32]) -> Answer
+fn read_pieces(document: &[u8], rows: &mut [u32], elements: &mut [u32]) -> Result<usize, Refusal>
     requires { (length document.now ≤ document_limit) × Roomy (length document.now) rows.old }
     ensures { ElementsLeft (read_from document.now fresh) elements.old result elements.new }
 {
     let got = walk(document, rows);
-    let Answer::Elements(n) = got else {
+    let Ok(n) = got else {
         return got;
     };
     deliver(rows, n, elements)
 }
 
 // The same of a document of few bytes, with a room for as many elements, so that the large room is not cleared for it.
-fn read_small(document: &[u8], elements: &mut [u32]) -> Answer
+fn read_small(document: &[u8], elements: &mut [u32]) -> Result<usize, Refusal>
     requires { length document.now ≤ 2048 }
     ensures { ElementsLeft (read_from document.now fresh) elements.old result elements.new }
 {
@@ -144,15 +156,21 @@ fn read_small(document: &[u8], elements: &mut [u32]) -> Answer
 
 // Reads a document: refuses it with 1 or 5 to 9 and leaves the table as it was, or fills the front of the table with the rows of
 // all elements and answers how many there are.
-pub fn read(document: &[u8], elements: &mut [u32]) -> Answer
+pub fn read(document: &[u8], elements: &mut [u32]) -> Result<usize, Refusal>
     ensures { ElementsLeft (elements_of document.now) elements.old result elements.new }
 {
     if Reader::DOCUMENT < document.len() {
-        return Answer::Refused(1, document.len());
+        return Err(Refusal {
+            reason: Reason::LongDocument,
+            value: document.len(),
+        });
     }
     let bad = text_chars::first_bad(document);
     if bad < document.len() {
-        return Answer::Refused(5, bad);
+        return Err(Refusal {
+            reason: Reason::BadCharacter,
+            value: bad,
+        });
     }
     if document.len() <= FEW {
         return read_small(document, elements);

@@ -8,9 +8,9 @@ use xml_values::Place;
 
 #[derive(Clone, Copy)]
 pub struct Listed {
-    pub x: Place,
-    pub y: Place,
-    pub z: Place,
+    pub x: Option<Place>,
+    pub y: Option<Place>,
+    pub z: Option<Place>,
     pub other: bool,
 }
 

@@ -1,5 +1,8 @@
 -- A processing instruction, by the pieces that the code finds in a row; and where it ends, for callers.
 -- Assumes nothing.
+use Rattle.std.specs.Prelude.{Option, None, Some, ℕ, Result, Ok, Err}
+use Rattle.refusals.specs.declared.Reason.TheVariants.{Malformed, PastLimit}
+use Rattle.refusals.specs.declared.Reason.{Reason}
 use mathlib.Core.Path.{◌≡◌, refl, sym, ◌∙◌, ap, subst}
 use mathlib.Core.Bool.{Bool, true, false}
 use mathlib.Core.List.{List}
@@ -15,8 +18,6 @@ use Rattle.text_scan.specs.Choice.{◌and◌, ◌or◌, not}
 use Rattle.text_scan.specs.Bytes.{text}
 use Rattle.text_scan.specs.Lists.{stands, begins}
 use Rattle.text_scan.specs.Walk.{from}
-use Rattle.text_scan.specs.declared.Found.{Found}
-use Rattle.text_scan.specs.declared.Found.TheVariants.{At, Nothing}
 use Rattle.text_scan.proofs.Tests.{pick_case, and_false, and_right}
 use Rattle.text_scan.proofs.Within.{there}
 use Rattle.text_scan.proofs.Lists.{text_fits}
@@ -24,8 +25,6 @@ use Rattle.text_scan.proofs.Ending.{Within, DoneWithin}
 use Rattle.text_scan.proofs.Walk as walks
 use Rattle.text_scan.proofs.Walk.{further}
 use Rattle.xml_names.proofs.Names.{name_least}
-use Rattle.xml_markup.specs.declared.Scanned.{Scanned}
-use Rattle.xml_markup.specs.declared.Scanned.TheVariants.{End, Refused}
 use Rattle.xml_markup.specs.AnyCase.{stands_any_case}
 use Rattle.xml_names.specs.Names.{is_space, name_end}
 use Rattle.xml_markup.specs.Instructions.{is_target, close_step, close_end, data_end, limited, instruction_to, instruction_end}
@@ -51,7 +50,7 @@ module _ (s : List ℕ) (i n : ℕ) where
 
 -- ---- the first "?>"
 abbrev pub InData : List ℕ → ℕ → ℕ → Type 0
-InData s at i = close_end s at ≡ from (close_step s) Nothing (length s) i
+InData s at i = close_end s at ≡ from (close_step s) None (length s) i
 
 module _ (s : List ℕ) (at : ℕ) where
   pub close_starts : InData s at at
@@ -59,48 +58,48 @@ module _ (s : List ℕ) (at : ℕ) where
   close_starts = refl
 
   module _ (i : ℕ) (l : InData s at i) where
-    pub close_unfinished : length s ≤ i → Nothing ≡ close_end s at
-    close_unfinished h = sym (l ∙ walks.ends (close_step s) Nothing (length s) i h)
+    pub close_unfinished : length s ≤ i → None ≡ close_end s at
+    close_unfinished h = sym (l ∙ walks.ends (close_step s) None (length s) i h)
 
     module _ (h : i < length s) where
       pub close_other : (get_or s i 0 ≡ code "?" → ⊥) → InData s at (i + 1)
       unfolding close_step
-      close_other a = l ∙ further (close_step s) Nothing (length s) i h (rw (ne_eqb (get_or s i 0) (code "?") a))
+      close_other a = l ∙ further (close_step s) None (length s) i h (rw (ne_eqb (get_or s i 0) (code "?") a))
 
       module _ (b : ℕ) (eb : b ≡ get_or s (i + 1) 0) (a : get_or s i 0 ≡ code "?") where
         pub close_mark : (b ≡ code ">" → ⊥) → InData s at (i + 1)
         unfolding close_step
         close_mark x =
-            l ∙ further (close_step s) Nothing (length s) i h (rw (← eb, ne_eqb b (code ">") x) (rw (and_false (eqb (get_or s i 0) (code "?")))))
+            l ∙ further (close_step s) None (length s) i h (rw (← eb, ne_eqb b (code ">") x) (rw (and_false (eqb (get_or s i 0) (code "?")))))
 
-        pub close_found : b ≡ code ">" → At (i + 2) ≡ close_end s at
+        pub close_found : b ≡ code ">" → Some (i + 2) ≡ close_end s at
         unfolding close_step
         close_found x =
-            sym (l ∙ walks.stops (close_step s) Nothing (length s) i (At (i + 2)) h (rw (← eb, eq-eqb (get_or s i 0) (code "?") a, eq-eqb b (code ">") x)))
+            sym (l ∙ walks.stops (close_step s) None (length s) i (Some (i + 2)) h (rw (← eb, eq-eqb (get_or s i 0) (code "?") a, eq-eqb b (code ">") x)))
 
 -- ---- behind the target
 module _ (s : List ℕ) (n : ℕ) where
-  pub data_none : length s ≤ n → Nothing ≡ data_end s n
+  pub data_none : length s ≤ n → None ≡ data_end s n
   unfolding data_end begins
   data_none h = rw (get_or-eq_default s 0 h, drop_of_length-le s h)
 
   module _ (t : Bool) (et : t ≡ is_space (get_or s n 0)) where
-    pub data_space : (r : Found) → t ≡ true → r ≡ close_end s n → r ≡ data_end s n
+    pub data_space : (r : Option ℕ) → t ≡ true → r ≡ close_end s n → r ≡ data_end s n
     unfolding data_end
     data_space r f g = rw (← et, f) g
 
     module _ (f : t ≡ false) (u : Bool) (eu : u ≡ stands (text "?>") s n) where
-      pub data_at_once : (r : Found) → u ≡ true → r ≡ close_end s n → r ≡ data_end s n
+      pub data_at_once : (r : Option ℕ) → u ≡ true → r ≡ close_end s n → r ≡ data_end s n
       unfolding data_end
       data_at_once r y g = rw (← et, f, ← eu, y) g
 
-      pub data_malformed : u ≡ false → Nothing ≡ data_end s n
+      pub data_malformed : u ≡ false → None ≡ data_end s n
       unfolding data_end
       data_malformed y = rw (← et, f, ← eu, y)
 
 -- ---- the whole
 module _ (s : List ℕ) (at : ℕ) (o : Bool) (eo : o ≡ stands (text "<?") s at) where
-  pub no_instruction : o ≡ false → Refused 7 ≡ instruction_end s at
+  pub no_instruction : o ≡ false → Err Malformed ≡ instruction_end s at
   unfolding instruction_to
   no_instruction f = rw (← eo, f)
 
@@ -113,34 +112,34 @@ module _ (s : List ℕ) (at : ℕ) (o : Bool) (eo : o ≡ stands (text "<?") s a
       target_room = rw en (name_least s (at + 2))
 
       module _ (t : Bool) (et : t ≡ is_target s (at + 2) n) where
-        pub no_target : t ≡ false → Refused 7 ≡ instruction_end s at
+        pub no_target : t ≡ false → Err Malformed ≡ instruction_end s at
         unfolding instruction_to
         no_target f = rw (← eo, y, ← en, ← et, f)
 
-        module _ (f : t ≡ true) (x : Found) (ex : x ≡ data_end s n) where
+        module _ (f : t ≡ true) (x : Option ℕ) (ex : x ≡ data_end s n) where
           named : instruction_end s at ≡ limited (leb (n - (at + 2)) 64) x
           unfolding instruction_to
           named = rw (← eo, y, ← en, ← et, f, ← ex)
 
-          pub no_end : x ≡ Nothing → Refused 7 ≡ instruction_end s at
+          pub no_end : x ≡ None → Err Malformed ≡ instruction_end s at
           no_end z = sym (named ∙ rw z)
 
-          module _ (j : ℕ) (z : x ≡ At j) where
-            pub name_over : 64 < n - (at + 2) → Refused 8 ≡ instruction_end s at
+          module _ (j : ℕ) (z : x ≡ Some j) where
+            pub name_over : 64 < n - (at + 2) → Err PastLimit ≡ instruction_end s at
             name_over h = sym (named ∙ rw (z, lt-leb (n - (at + 2)) 64 h))
 
-            pub instruction_whole : n - (at + 2) ≤ 64 → End j ≡ instruction_end s at
+            pub instruction_whole : n - (at + 2) ≤ 64 → Ok j ≡ instruction_end s at
             instruction_whole h = sym (named ∙ rw (z, le-leb (n - (at + 2)) 64 h))
 
 -- ---- bounds
-abbrev pub ScannedWithin : ℕ → ℕ → Scanned → Type 0
-ScannedWithin at n (End j) = (at < j) × (j ≤ n)
-ScannedWithin at n (Refused k) = Unit {0}
+abbrev pub ScannedWithin : ℕ → ℕ → Result ℕ Reason → Type 0
+ScannedWithin at n (Ok j) = (at < j) × (j ≤ n)
+ScannedWithin at n (Err k) = Unit {0}
 
-limited_within : (at n : ℕ) (small : Bool) (x : Found) → Within at n x → ScannedWithin at n (limited small x)
-limited_within at n true (At j) w = w
-limited_within at n false (At j) w = tt
-limited_within at n small Nothing w = tt
+limited_within : (at n : ℕ) (small : Bool) (x : Option ℕ) → Within at n x → ScannedWithin at n (limited small x)
+limited_within at n true (Some j) w = w
+limited_within at n false (Some j) w = tt
+limited_within at n small None w = tt
 
 module _ (s : List ℕ) (at : ℕ) where
   step_within : (i : ℕ) → at ≤ i → DoneWithin at (length s) (close_step s i)
@@ -153,7 +152,7 @@ module _ (s : List ℕ) (at : ℕ) where
   pub close_within : (n : ℕ) → at ≤ n → Within at (length s) (close_end s n)
   unfolding close_end
   close_within n h =
-      walks.keeps (close_step s) Nothing (Within at (length s)) at (length s) (λ i r h g e. subst (DoneWithin at (length s)) e (step_within i h)) tt n h
+      walks.keeps (close_step s) None (Within at (length s)) at (length s) (λ i r h g e. subst (DoneWithin at (length s)) e (step_within i h)) tt n h
 
   pub data_within : (n : ℕ) → at ≤ n → Within at (length s) (data_end s n)
   unfolding data_end

@@ -6,58 +6,37 @@ ghost use Rattle.xml_markup.specs.Comments.{comment_end};
 ghost use Rattle.xml_markup.specs.AnyCase.{stands_any_case};
 ghost use Rattle.xml_markup.specs.Instructions.{is_target, close_end, data_end, instruction_end};
 
-use text_scan::Found;
+use refusals::Reason;
+use text_scan::AnyCase;
 use xml_reader::Reader;
 
-// A piece of markup: the place after it, or the number of a refusal.
-#[derive(Clone, Copy)]
-pub enum Scanned {
-    End(usize),
-    Refused(u32),
-}
-
 // The place after the comment that begins at `at`.
-pub fn comment_end(s: &[u8], at: usize) -> Found
+pub fn comment_end(s: &[u8], at: usize) -> Option<usize>
     ensures { result ≡ comment_end s.now at }
 {
     if text_scan::text_at(s, at, b"<!--") {
-        let mut i = at + 4;
-        while i < s.len() {
+        for i in at + 4..s.len() {
             if s[i] != 45 {
-                i += 1;
                 continue;
             }
             if text_scan::byte(s, i + 1) != 45 {
-                i += 1;
                 continue;
             }
             if text_scan::byte(s, i + 2) == 62 {
-                return Found::At(i + 3);
+                return Some(i + 3);
             }
-            return Found::Nothing;
+            return None;
         }
-        return Found::Nothing;
+        return None;
     }
-    Found::Nothing
+    None
 }
 
 // Whether the text t, of small letters, stands at `at`, in any case of its letters.
 pub fn text_any_case_at(s: &[u8], at: usize, t: &[u8]) -> bool
     ensures { result ≡ stands_any_case t.now s.now at }
 {
-    let mut j = 0;
-    let mut i = at;
-    while j < t.len() {
-        if s.len() <= i {
-            return false;
-        }
-        if text_scan::lower_case(s[i]) != t[j] {
-            return false;
-        }
-        i += 1;
-        j += 1;
-    }
-    true
+    text_scan::text_read_at::<AnyCase>(s, at, t)
 }
 
 // Whether the bytes from `at` to `n` are a name that an instruction can have.
@@ -77,29 +56,26 @@ fn is_target(s: &[u8], at: usize, n: usize) -> bool
 }
 
 // The place after the first `?>` from `at` on.
-fn close_end(s: &[u8], at: usize) -> Found
+fn close_end(s: &[u8], at: usize) -> Option<usize>
     ensures { result ≡ close_end s.now at }
 {
-    let mut i = at;
-    while i < s.len() {
+    for i in at..s.len() {
         if s[i] != 63 {
-            i += 1;
             continue;
         }
         if text_scan::byte(s, i + 1) == 62 {
-            return Found::At(i + 2);
+            return Some(i + 2);
         }
-        i += 1;
     }
-    Found::Nothing
+    None
 }
 
 // The same behind a target, which ends at `n`.
-fn data_end(s: &[u8], n: usize) -> Found
+fn data_end(s: &[u8], n: usize) -> Option<usize>
     ensures { result ≡ data_end s.now n }
 {
     if s.len() <= n {
-        return Found::Nothing;
+        return None;
     }
     if xml_names::is_space(s[n]) {
         return close_end(s, n);
@@ -107,25 +83,25 @@ fn data_end(s: &[u8], n: usize) -> Found
     if text_scan::text_at(s, n, b"?>") {
         return close_end(s, n);
     }
-    Found::Nothing
+    None
 }
 
 // The place after the processing instruction that begins at `at`, which is no XML declaration.
-pub fn instruction_end(s: &[u8], at: usize) -> Scanned
+pub fn instruction_end(s: &[u8], at: usize) -> Result<usize, Reason>
     ensures { result ≡ instruction_end s.now at }
 {
     if text_scan::text_at(s, at, b"<?") {
         let n = xml_names::name_end(s, at + 2);
         if is_target(s, at + 2, n) {
-            let Found::At(j) = data_end(s, n) else {
-                return Scanned::Refused(7);
+            let Some(j) = data_end(s, n) else {
+                return Err(Reason::Malformed);
             };
             if Reader::NAME < n - (at + 2) {
-                return Scanned::Refused(8);
+                return Err(Reason::PastLimit);
             }
-            return Scanned::End(j);
+            return Ok(j);
         }
-        return Scanned::Refused(7);
+        return Err(Reason::Malformed);
     }
-    Scanned::Refused(7)
+    Err(Reason::Malformed)
 }

@@ -1,17 +1,15 @@
--- Element names and the question whether a name is a given text, by the tests of the code; and where element names end, for callers.
+-- Where element names end, for callers, and the question whether a name is a given text, by the tests of the code.
 -- Assumes nothing.
 use mathlib.Core.Path.{◌≡◌, sym, ◌∙◌}
 use mathlib.Core.Bool.{Bool, true, false}
 use mathlib.Core.List.{List, []}
 use Prim.Native.Nat.{ℕ, ◌-◌, ◌<◌, ◌≤◌}
-use Prim.Native.Char.{code}
 use native.Mathlib.Omega.{arith}
 use borrow.Author.Tests.{eq-eqb, ne_eqb}
 use lib.Dec.{eqb}
-use lib.ListN.{length, get_or, take, drop, get_or-eq_default, drop_of_length-le}
+use lib.ListN.{length, get_or, take, drop, drop_of_length-le}
 use lib.Seq.{take-nil}
-use Rattle.text_scan.specs.Choice.{◌and◌, not}
-use Rattle.text_scan.specs.Lists.{stands, run_from}
+use Rattle.text_scan.specs.Lists.{stands}
 use Rattle.text_scan.proofs.Tests.{pick_case, and_false, and_true}
 use Rattle.text_scan.proofs.Within.{inside}
 use Rattle.text_scan.proofs.Lists.{run_least}
@@ -19,27 +17,7 @@ use Rattle.xml_names.specs.Names.{name_end, name_at, name_is}
 use Rattle.xml_names.proofs.Names.{name_least, name_most}
 use Rattle.xml_names.specs.ElementNames.{is_element_start, is_element_char, element_end}
 
--- ---- no colon, of any class of bytes
-module _ (p : ℕ → Bool) (b : ℕ) where
-  pub colon : b ≡ code ":" → false ≡ p b and not (eqb b (code ":"))
-  colon e = sym (rw (eq-eqb b (code ":") e) (and_false (p b)))
-
-  pub no_colon : (r : Bool) → (b ≡ code ":" → ⊥) → r ≡ p b → r ≡ p b and not (eqb b (code ":"))
-  no_colon r n e = e ∙ sym (rw (ne_eqb b (code ":") n) (and_true (p b)))
-
 module _ (s : List ℕ) (at : ℕ) where
-  pub element_past : length s ≤ at → at ≡ element_end s at
-  unfolding element_end
-  element_past h = rw (get_or-eq_default s 0 h)
-
-  pub element_starts : (t : Bool) (r : ℕ) → t ≡ is_element_start (get_or s at 0) → t ≡ true → r ≡ run_from is_element_char s at → r ≡ element_end s at
-  unfolding element_end
-  element_starts t r e y f = rw (← e, y) f
-
-  pub element_none : (t : Bool) → t ≡ is_element_start (get_or s at 0) → t ≡ false → at ≡ element_end s at
-  unfolding element_end
-  element_none t e n = rw (← e, n)
-
   -- ---- bounds
   pub element_least : at ≤ element_end s at
   unfolding element_end

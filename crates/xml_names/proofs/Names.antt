@@ -7,8 +7,9 @@ use Prim.Native.Nat.{ℕ, ◌+◌, ◌<◌, ◌≤◌}
 use native.Mathlib.Omega.{arith}
 use borrow.Author.Tests.{ltb-true}
 use lib.Dec.{T, ltb}
-use lib.ListN.{length, get_or, get_or-eq_default}
-use Rattle.text_scan.specs.Lists.{run_from}
+use lib.ListN.{length, get_or, get_or-eq_default, drop_of_length-le}
+use Rattle.text_scan.specs.Choice.{pick}
+use Rattle.text_scan.specs.Lists.{run_end, run_from}
 use Rattle.text_scan.proofs.Tests.{never, pick_case}
 use Rattle.text_scan.proofs.Bytes.{agree, range}
 use Rattle.text_scan.proofs.Lists.{run_least, run_most}
@@ -30,13 +31,14 @@ module _ (s : List ℕ) (at : ℕ) where
   unfolding name_end
   name_past h = rw (get_or-eq_default s 0 h)
 
-  pub name_starts : (t : Bool) (r : ℕ) → t ≡ is_name_start (get_or s at 0) → t ≡ true → r ≡ run_from is_name_char s at → r ≡ name_end s at
-  unfolding name_end
-  name_starts t r e y f = rw (← e, y) f
+  -- a byte of one class, and those of another from there on
+  module _ (start class : ℕ → Bool) where
+    pub word_past : length s ≤ at → at ≡ pick (start (get_or s at 0)) (run_from class s at) at
+    unfolding run_end
+    word_past h = pick_case (λ r. at ≡ r) (start (get_or s at 0)) _ _ (λ _. rw (drop_of_length-le s h)) (λ _. refl)
 
-  pub name_none : (t : Bool) → t ≡ is_name_start (get_or s at 0) → t ≡ false → at ≡ name_end s at
-  unfolding name_end
-  name_none t e n = rw (← e, n)
+    pub word_none : (t : Bool) → t ≡ start (get_or s at 0) → t ≡ false → at ≡ pick (start (get_or s at 0)) (run_from class s at) at
+    word_none t e n = rw (← e, n)
 
   -- ---- bounds
   pub space_least : at ≤ space_end s at

@@ -1,13 +1,14 @@
 // What all markup is made of: white space, names, and what stands between a name and its value.
 #![tactic(auto)]
 
-ghost use Rattle.std.specs.Prelude.{◌≡◌};
+ghost use Rattle.std.specs.Prelude.{◌≡◌, get_or};
+ghost use Rattle.text_scan.specs.Choice.{pick};
 ghost use Rattle.text_scan.specs.Lists.{run_from};
 ghost use Rattle.xml_names.specs.Names.{is_space, is_name_start, is_name_char, space_end, name_end, name_is};
 ghost use Rattle.xml_names.specs.Values.{value_start};
 ghost use Rattle.xml_names.specs.ElementNames.{is_element_start, is_element_char, element_end};
 
-use text_scan::Found;
+use text_scan::ByteClass;
 
 pub fn is_space(b: u8) -> bool
     ensures { result ≡ is_space b }
@@ -24,19 +25,22 @@ pub fn is_space(b: u8) -> bool
     b == 32
 }
 
+// White space, for a run.
+struct Space;
+
+impl ByteClass for Space {
+    ghost members = { is_space };
+
+    fn holds(b: u8) -> bool {
+        is_space(b)
+    }
+}
+
 // The place after the white space from `at` on.
 pub fn space_end(s: &[u8], at: usize) -> usize
     ensures { result ≡ space_end s.now at }
 {
-    let mut i = at;
-    while i < s.len() {
-        if is_space(s[i]) {
-            i += 1;
-            continue;
-        }
-        return i;
-    }
-    i
+    text_scan::run_end::<Space>(s, at)
 }
 
 // Small letters, which are the most, are asked for first, here and where a name goes on.
@@ -73,84 +77,82 @@ pub fn is_name_char(b: u8) -> bool
     is_name_start(b)
 }
 
-// The place after the bytes of a name from `at` on.
-fn name_chars_end(s: &[u8], at: usize) -> usize
-    ensures { result ≡ run_from is_name_char s.now at }
-{
-    let mut i = at;
-    while i < s.len() {
-        if is_name_char(s[i]) {
-            i += 1;
-            continue;
-        }
-        return i;
+// What a name begins with, and what it goes on with.
+struct NameStart;
+
+impl ByteClass for NameStart {
+    ghost members = { is_name_start };
+
+    fn holds(b: u8) -> bool {
+        is_name_start(b)
     }
-    i
+}
+
+struct NameChar;
+
+impl ByteClass for NameChar {
+    ghost members = { is_name_char };
+
+    fn holds(b: u8) -> bool {
+        is_name_char(b)
+    }
+}
+
+// The same of an element name, which has no colon.
+struct ElementStart;
+
+impl ByteClass for ElementStart {
+    ghost members = { is_element_start };
+
+    fn holds(b: u8) -> bool {
+        if 96 < b {
+            return b < 123;
+        }
+        if b == 58 {
+            return false;
+        }
+        is_name_start(b)
+    }
+}
+
+struct ElementChar;
+
+impl ByteClass for ElementChar {
+    ghost members = { is_element_char };
+
+    fn holds(b: u8) -> bool {
+        if (96 < b) & (b < 123) {
+            return true;
+        }
+        if b == 58 {
+            return false;
+        }
+        is_name_char(b)
+    }
+}
+
+// The place after a byte of the class S at `at` and the bytes of the class C from there on, which is `at` where it is none of S.
+fn word_end<S: ByteClass, C: ByteClass>(s: &[u8], at: usize) -> usize
+    ensures { result ≡ pick (S.members (get_or s.now at 0)) (run_from C.members s.now at) at }
+{
+    if at < s.len() && S::holds(s[at]) {
+        return text_scan::run_end::<C>(s, at);
+    }
+    at
 }
 
 // The place after the name at `at`, which is `at` where no name starts.
 pub fn name_end(s: &[u8], at: usize) -> usize
     ensures { result ≡ name_end s.now at }
 {
-    if s.len() <= at {
-        return at;
-    }
-    if is_name_start(s[at]) {
-        return name_chars_end(s, at);
-    }
-    at
-}
-
-fn is_element_start(b: u8) -> bool
-    ensures { result ≡ is_element_start b }
-{
-    if 96 < b {
-        return b < 123;
-    }
-    if b == 58 {
-        return false;
-    }
-    is_name_start(b)
-}
-
-fn is_element_char(b: u8) -> bool
-    ensures { result ≡ is_element_char b }
-{
-    if (96 < b) & (b < 123) {
-        return true;
-    }
-    if b == 58 {
-        return false;
-    }
-    is_name_char(b)
-}
-
-// The place after the bytes of an element name from `at` on.
-fn element_chars_end(s: &[u8], at: usize) -> usize
-    ensures { result ≡ run_from is_element_char s.now at }
-{
-    let mut i = at;
-    while i < s.len() {
-        if is_element_char(s[i]) {
-            i += 1;
-            continue;
-        }
-        return i;
-    }
-    i
+    word_end::<NameStart, NameChar>(s, at)
 }
 
 // The place after the element name at `at`, which is `at` where none starts.
 pub fn element_end(s: &[u8], at: usize) -> usize
     ensures { result ≡ element_end s.now at }
 {
-    if s.len() <= at {
-        return at;
-    }
-    if is_element_start(s[at]) {
-        return element_chars_end(s, at);
-    }
-    at
+    word_end::<ElementStart, ElementChar>(s, at)
 }
 
 // Whether the name at `at` is the text t.
@@ -175,26 +177,26 @@ pub fn is_named(s: &[u8], at: usize, n: usize, t: &[u8]) -> bool
 }
 
 // The first byte of the value of a name that ends at `n`, behind `=` and the opening quote.
-pub fn value_start(s: &[u8], n: usize) -> Found
+pub fn value_start(s: &[u8], n: usize) -> Option<usize>
     ensures { result ≡ value_start s.now n }
 {
     // Most values stand straight behind the name, in double quotes.
     if text_scan::byte(s, n) == 61 {
         if text_scan::byte(s, n + 1) == 34 {
-            return Found::At(n + 2);
+            return Some(n + 2);
         }
     }
     let e = space_end(s, n);
     if text_scan::byte(s, e) != 61 {
-        return Found::Nothing;
+        return None;
     }
     let q = space_end(s, e + 1);
     let c = text_scan::byte(s, q);
     if c == 34 {
-        return Found::At(q + 1);
+        return Some(q + 1);
     }
     if c == 39 {
-        return Found::At(q + 1);
+        return Some(q + 1);
     }
-    Found::Nothing
+    None
 }

@@ -1,5 +1,7 @@
 -- After the root no element starts: a tag there is refused.
 -- Assumes nothing.
+use Rattle.std.specs.Prelude.{Option, None, Some, ℕ, Result, Ok, Err}
+use Rattle.refusals.specs.declared.Reason.{Reason}
 use mathlib.Core.Path.{◌≡◌, subst}
 use mathlib.Core.List.{List}
 use Prim.Native.Nat.{ℕ}
@@ -8,11 +10,7 @@ use lib.ListN.{length, get_or}
 use Rattle.text_scan.specs.Choice.{◌or◌, ◌and◌}
 use Rattle.text_scan.specs.Bytes.{text}
 use Rattle.text_scan.specs.Lists.{stands}
-use Rattle.text_scan.specs.declared.Found.{Found}
-use Rattle.text_scan.specs.declared.Found.TheVariants.{At, Nothing}
 use Rattle.text_scan.proofs.Tests.{pick_case}
-use Rattle.xml_markup.specs.declared.Scanned.{Scanned as Instructed}
-use Rattle.xml_markup.specs.declared.Scanned.TheVariants.{End as Over, Refused as Refusing}
 use Rattle.xml_names.specs.Names.{space_end}
 use Rattle.xml_markup.specs.Comments.{comment_end}
 use Rattle.xml_markup.specs.Instructions.{instruction_end}
@@ -38,13 +36,13 @@ abbrev NoTag : Scanned → Type 0
 NoTag (Piece k j) = Adds k → ⊥
 NoTag (Refused n) = Unit {0}
 
-found_none : (k : Kind) → (Adds k → ⊥) → (x : Found) → NoTag (found k x)
-found_none k f (At j) = f
-found_none k f Nothing = tt
+found_none : (k : Kind) → (Adds k → ⊥) → (x : Option ℕ) → NoTag (found k x)
+found_none k f (Some j) = f
+found_none k f None = tt
 
-instructed_none : (x : Instructed) → NoTag (instructed x)
-instructed_none (Over j) = λ a. a
-instructed_none (Refusing n) = tt
+instructed_none : (x : Result ℕ Reason) → NoTag (instructed x)
+instructed_none (Ok j) = λ a. a
+instructed_none (Err n) = tt
 
 module _ (s : List ℕ) (i : ℕ) where
   space_none : (j : ℕ) → NoTag (only_space s j)

@@ -1,5 +1,6 @@
 -- The rows that are read of a document are in document order, and the elements lie in the document.
 -- Assumes nothing.
+use Rattle.refusals.specs.declared.Reason.TheVariants.{Malformed, PastLimit}
 use mathlib.Core.Path.{◌≡◌, refl, ◌∙◌, ap, subst}
 use mathlib.Core.Bool.{Bool, true, false}
 use mathlib.Core.List.{List}
@@ -44,9 +45,9 @@ module _ (t : Reading) where
   piece_order s r j w h Instruction f g e = subst InOrder (went (passed r j) t e) (passed_order r j w.1)
   piece_order s r j w h Declaration f g e = subst InOrder (went (passed r j) t e) (passed_order r j w.1)
   piece_order s r j w h Start f g e =
-      subst InOrder (chosen (has_element_room r) (added r j (r.depth + 1) r.count) t (refused 8 r.at) e).1 (start_order (length s) r j w.0 w.1 h (f tt))
+      subst InOrder (chosen (has_element_room r) (added r j (r.depth + 1) r.count) t (refused PastLimit r.at) e).1 (start_order (length s) r j w.0 w.1 h (f tt))
   piece_order s r j w h Empty f g e =
-      subst InOrder (chosen (has_element_room r) (added r j r.depth r.top) t (refused 8 r.at) e).1 (empty_order (length s) r j w.0 w.1 h (f tt))
+      subst InOrder (chosen (has_element_room r) (added r j r.depth r.top) t (refused PastLimit r.at) e).1 (empty_order (length s) r j w.0 w.1 h (f tt))
   piece_order s r j w h End f g e =
       subst InOrder (closing_on s r t j e) (closed_order (length s) r j w.0 w.1 h (g refl))
 
@@ -120,7 +121,7 @@ unfolding elements_of read_from
 read_rows s =
     pick_case (ReadRows s) (ltb document_limit (length s)) _ _ (λ _. tt)
     (λ _. pick_case (ReadRows s) (ltb (first_bad s) (length s)) _ _ (λ _. tt)
-    (λ _. run_keeps (turn s) (refused 7 (length s)) (left s) (turn_falls s) (Kept (length s)) (ReadRows s) (λ r t w e. (turn_sound s r t w.0 e, turn_order s r t w e)) (λ r x w e. turn_rows s r x w e) fresh (fresh_kept (length s))))
+    (λ _. run_keeps (turn s) (refused Malformed (length s)) (left s) (turn_falls s) (Kept (length s)) (ReadRows s) (λ r t w e. (turn_sound s r t w.0 e, turn_order s r t w e)) (λ r x w e. turn_rows s r x w e) fresh (fresh_kept (length s))))
 
 pub rows_read : (s : List ℕ) (n : ℕ) (rows : List ℕ) → elements_of s ≡ elements n rows → Rows s n rows
 rows_read s n rows e = subst (ReadRows s) e (read_rows s)

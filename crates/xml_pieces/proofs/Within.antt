@@ -1,5 +1,7 @@
 -- Where a piece ends: behind its start, and within. Each kind of piece has that bound in its own crate.
 -- Assumes nothing.
+use Rattle.std.specs.Prelude.{Option, None, Some, ℕ, Result, Ok, Err}
+use Rattle.refusals.specs.declared.Reason.{Reason}
 use mathlib.Core.Path.{◌≡◌, refl, subst}
 use mathlib.Core.Bool.{Bool, true, false}
 use mathlib.Core.List.{List}
@@ -11,15 +13,11 @@ use lib.ListN.{length, get_or}
 use Rattle.text_scan.specs.Choice.{pick, ◌or◌, ◌and◌}
 use Rattle.text_scan.specs.Bytes.{text}
 use Rattle.text_scan.specs.Lists.{stands}
-use Rattle.text_scan.specs.declared.Found.{Found}
-use Rattle.text_scan.specs.declared.Found.TheVariants.{At, Nothing}
 use Rattle.text_scan.proofs.Tests.{pick_case, and_right}
 use Rattle.text_scan.proofs.Lists.{run_least, run_most}
 use Rattle.text_scan.proofs.Ending as ending
 use Rattle.xml_references.specs.Runs.{text_end}
 use Rattle.xml_references.proofs.Bounds.{text_ahead, text_inside, text_ended}
-use Rattle.xml_markup.specs.declared.Scanned.{Scanned as Instructed}
-use Rattle.xml_markup.specs.declared.Scanned.TheVariants.{End as Over, Refused as Refusing}
 use Rattle.xml_names.specs.Names.{is_space, space_end}
 use Rattle.xml_markup.specs.Comments.{comment_end}
 use Rattle.xml_markup.specs.Instructions.{instruction_end}
@@ -28,7 +26,7 @@ use Rattle.xml_markup.proofs.Comments.{comment_within}
 use Rattle.xml_markup.proofs.Instructions.{ScannedWithin, instruction_within}
 use Rattle.xml_declaration.proofs.Declaration.{declaration_within}
 use Rattle.xml_attributes.specs.declared.Tag.{Tag}
-use Rattle.xml_attributes.specs.declared.Tag.TheVariants.{Start as Opens, Empty as Stands, Refused as Malformed}
+use Rattle.xml_attributes.specs.declared.Tag.TheVariants.{Start as Opens, Empty as Stands}
 use Rattle.xml_names.specs.ElementNames.{element_end}
 use Rattle.xml_tags.specs.Tags.{tag_at}
 use Rattle.xml_tags.specs.EndTags.{closed_by, end_tag_to, end_tag_end}
@@ -46,18 +44,18 @@ abbrev pub Within : ℕ → ℕ → Scanned → Type 0
 Within at n (Piece k j) = (at < j) × (j ≤ n)
 Within at n (Refused r) = Unit {0}
 
-found_within : (at n : ℕ) (k : Kind) (x : Found) → ending.Within at n x → Within at n (found k x)
-found_within at n k (At j) w = w
-found_within at n k Nothing w = tt
+found_within : (at n : ℕ) (k : Kind) (x : Option ℕ) → ending.Within at n x → Within at n (found k x)
+found_within at n k (Some j) w = w
+found_within at n k None w = tt
 
-instructed_within : (at n : ℕ) (x : Instructed) → ScannedWithin at n x → Within at n (instructed x)
-instructed_within at n (Over j) w = w
-instructed_within at n (Refusing r) w = tt
+instructed_within : (at n : ℕ) (x : Result ℕ Reason) → ScannedWithin at n x → Within at n (instructed x)
+instructed_within at n (Ok j) w = w
+instructed_within at n (Err r) w = tt
 
-tagged_within : (at n : ℕ) (x : Tag) → TagWithin at n x → Within at n (tagged x)
-tagged_within at n (Opens j) w = w
-tagged_within at n (Stands j) w = w
-tagged_within at n (Malformed r) w = tt
+tagged_within : (at n : ℕ) (x : Result Tag Reason) → TagWithin at n x → Within at n (tagged x)
+tagged_within at n (Ok (Opens j)) w = w
+tagged_within at n (Ok (Stands j)) w = w
+tagged_within at n (Err r) w = tt
 
 -- ---- text: what starts at no '<' has a byte at least
 module _ (s : List ℕ) (i : ℕ) (h : i < length s) (b : get_or s i 0 ≡ 60 → ⊥) where
@@ -84,10 +82,10 @@ module _ (s : List ℕ) (i : ℕ) (h : i < length s) (b : get_or s i 0 ≡ 60 �
       (λ e. (behind_start (space_end s i) (run_least is_space s i) (space_ended (space_end s i) e), run_most is_space s i (omega arith)))
       (λ e. tt)
 
-  run_within : (x : Found) → text_end s i ≡ x → Within i (length s) (found Text x)
-  run_within (At j) e =
+  run_within : (x : Option ℕ) → text_end s i ≡ x → Within i (length s) (found Text x)
+  run_within (Some j) e =
       (behind_start j (text_ahead s i (omega arith) j e) (text_ended s i (omega arith) j e), text_inside s i (omega arith) j e)
-  run_within Nothing e = tt
+  run_within None e = tt
 
   text_within : (p : DocumentPart) → Within i (length s) (text_piece_at s i p)
   unfolding text_piece_at
@@ -148,9 +146,9 @@ Ends p i (Piece Empty j) = Unit {0}
 Ends p i (Piece End j) = (p ≡ Inside) × (i + 2 ≤ j)
 Ends p i (Refused n) = Unit {0}
 
-abbrev pub Behind : ℕ → Found → Type 0
-Behind i (At j) = i + 2 ≤ j
-Behind i Nothing = Unit {0}
+abbrev pub Behind : ℕ → Option ℕ → Type 0
+Behind i (Some j) = i + 2 ≤ j
+Behind i None = Unit {0}
 
 pub end_tag_behind : (s : List ℕ) (i : ℕ) → Behind i (end_tag_end s i)
 unfolding end_tag_to closed_by
@@ -164,26 +162,26 @@ module _ (p : DocumentPart) (s : List ℕ) (i : ℕ) where
   space_ends : (j : ℕ) → Ends p i (only_space s j)
   space_ends j = pick_case (Ends p i) (eqb j (length s) or eqb (get_or s j 0) 60) _ _ (λ _. tt) (λ _. tt)
 
-  text_ends : (x : Found) → Ends p i (found Text x)
-  text_ends (At j) = tt
-  text_ends Nothing = tt
+  text_ends : (x : Option ℕ) → Ends p i (found Text x)
+  text_ends (Some j) = tt
+  text_ends None = tt
 
-  comment_ends : (x : Found) → Ends p i (found Comment x)
-  comment_ends (At j) = tt
-  comment_ends Nothing = tt
+  comment_ends : (x : Option ℕ) → Ends p i (found Comment x)
+  comment_ends (Some j) = tt
+  comment_ends None = tt
 
-  declaration_ends : (x : Found) → Ends p i (found Declaration x)
-  declaration_ends (At j) = tt
-  declaration_ends Nothing = tt
+  declaration_ends : (x : Option ℕ) → Ends p i (found Declaration x)
+  declaration_ends (Some j) = tt
+  declaration_ends None = tt
 
-  instruction_ends : (x : Instructed) → Ends p i (instructed x)
-  instruction_ends (Over j) = tt
-  instruction_ends (Refusing n) = tt
+  instruction_ends : (x : Result ℕ Reason) → Ends p i (instructed x)
+  instruction_ends (Ok j) = tt
+  instruction_ends (Err n) = tt
 
-  tag_ends : (x : Tag) → Ends p i (tagged x)
-  tag_ends (Opens j) = tt
-  tag_ends (Stands j) = tt
-  tag_ends (Malformed n) = tt
+  tag_ends : (x : Result Tag Reason) → Ends p i (tagged x)
+  tag_ends (Ok (Opens j)) = tt
+  tag_ends (Ok (Stands j)) = tt
+  tag_ends (Err n) = tt
 
   bang_ends : Ends p i (bang_at s i)
   unfolding bang_at
@@ -196,9 +194,9 @@ module _ (p : DocumentPart) (s : List ℕ) (i : ℕ) where
   question_ends =
       pick_case (Ends p i) (eqb i 0 and is_declaration s) _ _ (λ _. declaration_ends (declaration_end s)) (λ _. instruction_ends (instruction_end s i))
 
-end_inside_ends : (s : List ℕ) (i : ℕ) (x : Found) → Behind i x → Ends Inside i (found End x)
-end_inside_ends s i (At j) h = (refl, h)
-end_inside_ends s i Nothing h = tt
+end_inside_ends : (s : List ℕ) (i : ℕ) (x : Option ℕ) → Behind i x → Ends Inside i (found End x)
+end_inside_ends s i (Some j) h = (refl, h)
+end_inside_ends s i None h = tt
 
 end_ends : (s : List ℕ) (i : ℕ) (p : DocumentPart) → Ends p i (end_at s i p)
 unfolding end_at

@@ -1,22 +1,20 @@
 -- One piece of a document (document 01, "Reading the document"): a run without '<', or one piece of markup that starts at '<'. The answer is its
 -- kind with the place after it, or the number of a refusal: 6 is a document type declaration or CDATA, 7 malformed, 8 past a limit.
 -- Assumes nothing.
-use Rattle.std.specs.Prelude.{ℕ, List, eqb, length, get_or}
+use Rattle.std.specs.Prelude.{ℕ, List, eqb, length, get_or, Option, None, Some, Result, Ok, Err}
+use Rattle.refusals.specs.declared.Reason.TheVariants.{Unsupported, Malformed}
+use Rattle.refusals.specs.declared.Reason.{Reason}
 use Prim.Native.Char.{code}
 use Rattle.text_scan.specs.Choice.{pick, ◌or◌, ◌and◌}
 use Rattle.text_scan.specs.Bytes.{text}
 use Rattle.text_scan.specs.Lists.{stands}
-use Rattle.text_scan.specs.declared.Found.{Found}
-use Rattle.text_scan.specs.declared.Found.TheVariants.{At, Nothing}
 use Rattle.xml_references.specs.Runs.{text_end}
-use Rattle.xml_markup.specs.declared.Scanned.{Scanned as Instructed}
-use Rattle.xml_markup.specs.declared.Scanned.TheVariants.{End as Over, Refused as Refusing}
 use Rattle.xml_names.specs.Names.{space_end}
 use Rattle.xml_markup.specs.Comments.{comment_end}
 use Rattle.xml_markup.specs.Instructions.{instruction_end}
 use Rattle.xml_declaration.specs.Declaration.{is_declaration, declaration_end}
 use Rattle.xml_attributes.specs.declared.Tag.{Tag}
-use Rattle.xml_attributes.specs.declared.Tag.TheVariants.{Start as Opens, Empty as Stands, Refused as Malformed}
+use Rattle.xml_attributes.specs.declared.Tag.TheVariants.{Start as Opens, Empty as Stands}
 use Rattle.xml_tags.specs.Tags.{tag_at}
 use Rattle.xml_tags.specs.EndTags.{end_tag_end}
 use Rattle.xml_pieces.specs.declared.Kind.{Kind}
@@ -27,13 +25,13 @@ use Rattle.xml_pieces.specs.declared.Scanned.{Scanned}
 use Rattle.xml_pieces.specs.declared.Scanned.TheVariants.{Piece, Refused}
 
 -- what is found is a piece of this kind; what is not, malformed
-abbrev pub found : Kind → Found → Scanned
-found kind (At after) = Piece kind after
-found kind Nothing = Refused 7
+abbrev pub found : Kind → Option ℕ → Scanned
+found kind (Some after) = Piece kind after
+found kind None = Refused Malformed
 
 -- white space, which ends at j, is all that may stand outside the root
 abbrev pub only_space : List ℕ → ℕ → Scanned
-only_space s j = pick (eqb j (length s) or eqb (get_or s j 0) (code "<")) (Piece Text j) (Refused 7)
+only_space s j = pick (eqb j (length s) or eqb (get_or s j 0) (code "<")) (Piece Text j) (Refused Malformed)
 
 unfoldable pub text_piece_at : List ℕ → ℕ → DocumentPart → Scanned
 text_piece_at s i Before = only_space s (space_end s i)
@@ -44,12 +42,12 @@ text_piece_at s i After = only_space s (space_end s i)
 unfoldable pub bang_at : List ℕ → ℕ → Scanned
 bang_at s i =
     pick (stands (text "<!--") s i) (found Comment (comment_end s i))
-    (pick (stands (text "<!DOCTYPE") s i or stands (text "<![CDATA[") s i) (Refused 6) (Refused 7))
+    (pick (stands (text "<!DOCTYPE") s i or stands (text "<![CDATA[") s i) (Refused Unsupported) (Refused Malformed))
 
 -- "<?"
-abbrev pub instructed : Instructed → Scanned
-instructed (Over after) = Piece Instruction after
-instructed (Refusing n) = Refused n
+abbrev pub instructed : Result ℕ Reason → Scanned
+instructed (Ok after) = Piece Instruction after
+instructed (Err n) = Refused n
 
 unfoldable pub question_at : List ℕ → ℕ → Scanned
 question_at s i =
@@ -57,20 +55,20 @@ question_at s i =
 
 -- "</": an end tag can stand inside the root only
 unfoldable pub end_at : List ℕ → ℕ → DocumentPart → Scanned
-end_at s i Before = Refused 7
+end_at s i Before = Refused Malformed
 end_at s i Inside = found End (end_tag_end s i)
-end_at s i After = Refused 7
+end_at s i After = Refused Malformed
 
 -- any other '<': a start or an empty-element tag, of which there is none after the root
-abbrev pub tagged : Tag → Scanned
-tagged (Opens after) = Piece Start after
-tagged (Stands after) = Piece Empty after
-tagged (Malformed n) = Refused n
+abbrev pub tagged : Result Tag Reason → Scanned
+tagged (Ok (Opens after)) = Piece Start after
+tagged (Ok (Stands after)) = Piece Empty after
+tagged (Err n) = Refused n
 
 unfoldable pub start_at : List ℕ → ℕ → DocumentPart → Scanned
 start_at s i Before = tagged (tag_at s i)
 start_at s i Inside = tagged (tag_at s i)
-start_at s i After = Refused 7
+start_at s i After = Refused Malformed
 
 unfoldable pub markup_at : List ℕ → ℕ → DocumentPart → Scanned
 markup_at s i part =

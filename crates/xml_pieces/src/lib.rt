@@ -1,10 +1,11 @@
-// One piece of a document: its kind with the place after it, or the number of a refusal.
+// One piece of a document: its kind with the place after it, or why it is refused.
 #![tactic(auto)]
 
 ghost use Rattle.std.specs.Prelude.{◌≡◌};
 ghost use Rattle.xml_pieces.specs.Pieces.{found, only_space, text_piece_at, bang_at, instructed, question_at, end_at, tagged, start_at, markup_at, piece_at};
 
-use text_scan::Found;
+use refusals::Reason;
+use xml_attributes::Tag;
 
 #[derive(Clone, Copy)]
 pub enum Kind {
@@ -28,16 +29,16 @@ pub enum DocumentPart {
 #[derive(Clone, Copy)]
 pub enum Scanned {
     Piece(Kind, usize),
-    Refused(u32),
+    Refused(Reason),
 }
 
 // What is found is a piece of this kind; what is not, malformed.
-fn found_as(kind: Kind, place: Found) -> Scanned
+fn found_as(kind: Kind, place: Option<usize>) -> Scanned
     ensures { result ≡ found kind place }
 {
     match place {
-        Found::At(after) => Scanned::Piece(kind, after),
-        Found::Nothing => Scanned::Refused(7),
+        Some(after) => Scanned::Piece(kind, after),
+        None => Scanned::Refused(Reason::Malformed),
     }
 }
 
@@ -51,7 +52,7 @@ fn only_space(s: &[u8], j: usize) -> Scanned
     if text_scan::byte(s, j) == 60 {
         return Scanned::Piece(Kind::Text, j);
     }
-    Scanned::Refused(7)
+    Scanned::Refused(Reason::Malformed)
 }
 
 // A run without `<`.
@@ -73,20 +74,20 @@ fn bang(s: &[u8], at: usize) -> Scanned
         return found_as(Kind::Comment, xml_markup::comment_end(s, at));
     }
     if text_scan::text_at(s, at, b"<!DOCTYPE") {
-        return Scanned::Refused(6);
+        return Scanned::Refused(Reason::Unsupported);
     }
     if text_scan::text_at(s, at, b"<![CDATA[") {
-        return Scanned::Refused(6);
+        return Scanned::Refused(Reason::Unsupported);
     }
-    Scanned::Refused(7)
+    Scanned::Refused(Reason::Malformed)
 }
 
-fn instruction(got: xml_markup::Scanned) -> Scanned
+fn instruction(got: Result<usize, Reason>) -> Scanned
     ensures { result ≡ instructed got }
 {
     match got {
-        xml_markup::Scanned::End(after) => Scanned::Piece(Kind::Instruction, after),
-        xml_markup::Scanned::Refused(number) => Scanned::Refused(number),
+        Ok(after) => Scanned::Piece(Kind::Instruction, after),
+        Err(number) => Scanned::Refused(number),
     }
 }
 
@@ -108,19 +109,22 @@ fn end_tag(s: &[u8], at: usize, part: DocumentPart) -> Scanned
     ensures { result ≡ end_at s.now at part }
 {
     match part {
-        DocumentPart::Before => Scanned::Refused(7),
+        DocumentPart::Before => Scanned::Refused(Reason::Malformed),
         DocumentPart::Inside => found_as(Kind::End, xml_tags::end_tag_end(s, at)),
-        DocumentPart::After => Scanned::Refused(7),
+        DocumentPart::After => Scanned::Refused(Reason::Malformed),
     }
 }
 
-fn tag(got: xml_attributes::Tag) -> Scanned
+fn tag(got: Result<Tag, Reason>) -> Scanned
     ensures { result ≡ tagged got }
 {
-    match got {
-        xml_attributes::Tag::Start(after) => Scanned::Piece(Kind::Start, after),
-        xml_attributes::Tag::Empty(after) => Scanned::Piece(Kind::Empty, after),
-        xml_attributes::Tag::Refused(number) => Scanned::Refused(number),
+    let tag = match got {
+        Ok(tag) => tag,
+        Err(reason) => return Scanned::Refused(reason),
+    };
+    match tag {
+        Tag::Start(after) => Scanned::Piece(Kind::Start, after),
+        Tag::Empty(after) => Scanned::Piece(Kind::Empty, after),
     }
 }
 
@@ -131,7 +135,7 @@ fn start_tag(s: &[u8], at: usize, part: DocumentPart) -> Scanned
     match part {
         DocumentPart::Before => tag(xml_tags::tag_at(s, at)),
         DocumentPart::Inside => tag(xml_tags::tag_at(s, at)),
-        DocumentPart::After => Scanned::Refused(7),
+        DocumentPart::After => Scanned::Refused(Reason::Malformed),
     }
 }
 

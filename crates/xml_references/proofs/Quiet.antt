@@ -1,5 +1,6 @@
 -- The blocks of a value that are passed over whole.
 -- Assumes nothing.
+use Rattle.std.specs.Prelude.{None}
 use mathlib.Core.Path.{◌≡◌, refl, sym, ◌∙◌}
 use mathlib.Core.Bool.{Bool, true, false, ◌&&◌}
 use mathlib.Core.List.{List}
@@ -10,7 +11,6 @@ use borrow.Author.Tests.{ne_eqb, ltb-true, not-true}
 use lib.Dec.{ltb, eqb}
 use lib.ListN.{length, get_or}
 use Rattle.text_scan.specs.Choice.{◌and◌, not}
-use Rattle.text_scan.specs.declared.Found.TheVariants.{Nothing}
 use Rattle.text_scan.proofs.Tests.{and_left, and_right}
 use Rattle.text_scan.proofs.Walk as walks
 use Rattle.xml_references.specs.Runs.{value_step, value_end}
@@ -40,7 +40,7 @@ module _ (s : List ℕ) (q : ℕ) (l : q ≤ 39) where
   unfolding quiet value_end value_step
   over_quiet i h e =
       let a : 39 < get_or s i 0 = ltb-true 39 (get_or s i 0) (and_left (ltb (code "'") (get_or s i 0)) _ e) in
-      walks.further (value_step s q) Nothing (length s) i h
+      walks.further (value_step s q) None (length s) i h
       (rw (ne_eqb (get_or s i 0) q (λ z. omega arith), not-true (eqb (get_or s i 0) (code "<")) (and_right (ltb (code "'") (get_or s i 0)) _ e), ne_eqb (get_or s i 0) (code "&") (λ z. omega arith)))
 
   over_block : (i k : ℕ) → i + k ≤ length s → quiet_for s i k ≡ true → value_end s q i ≡ value_end s q (i + k)

@@ -1,5 +1,6 @@
 -- What bytes say, piece by piece: behind a reference its character's bytes, else the byte itself; never more bytes than there were.
 -- Assumes nothing.
+use Rattle.std.specs.Prelude.{Option, None, Some}
 use mathlib.Core.Path.{◌≡◌, refl, sym, ◌∙◌, ap}
 use mathlib.Core.Bool.{true}
 use mathlib.Core.List.{List, [], ◌∷◌, ◌++◌}
@@ -15,13 +16,13 @@ use Rattle.text_scan.proofs.Tests.{never, and_right}
 use Rattle.text_scan.proofs.Within.{drop_here}
 use Rattle.text_encode.specs.Encode.{encoded}
 use Rattle.xml_references.specs.declared.Reference.{Reference}
-use Rattle.xml_references.specs.declared.Reference.TheVariants.{Char, Nothing}
 use Rattle.xml_references.specs.References.{entity_named, reference_of, reference_at}
 use Rattle.xml_references.specs.Decoded.{replaced, is_plain, part, decoded}
 use Rattle.xml_references.proofs.Widths.{reference_least, reference_fits, reference_room}
+use Rattle.xml_references.specs.References.{refers}
 
 -- only '&' begins a reference
-plain : (x : ℕ) (xs : List ℕ) → (x ≡ code "&" → ⊥) → reference_of (x ∷ xs) ≡ Nothing
+plain : (x : ℕ) (xs : List ℕ) → (x ≡ code "&" → ⊥) → reference_of (x ∷ xs) ≡ None
 unfolding begins entity_named reference_of
 plain x xs h = rw (ne_eqb x (code "&") h)
 
@@ -33,23 +34,23 @@ passed (suc k) [] = refl
 passed (suc k) (x ∷ xs) = passed k xs
 
 -- ---- the first piece
-kept : (x : ℕ) (xs : List ℕ) → reference_of (x ∷ xs) ≡ Nothing → replaced 0 (x ∷ xs) ≡ x ∷ replaced 0 xs
+kept : (x : ℕ) (xs : List ℕ) → reference_of (x ∷ xs) ≡ None → replaced 0 (x ∷ xs) ≡ x ∷ replaced 0 xs
 unfolding replaced
 kept x xs e = rw (e, replaced)
 
-gone : (x : ℕ) (xs : List ℕ) (w c : ℕ) → reference_of (x ∷ xs) ≡ Char w c → replaced 0 (x ∷ xs) ≡ encoded c ++ replaced (w - 1) xs
+gone : (x : ℕ) (xs : List ℕ) (w c : ℕ) → reference_of (x ∷ xs) ≡ refers w c → replaced 0 (x ∷ xs) ≡ encoded c ++ replaced (w - 1) xs
 unfolding replaced
 gone x xs w c e = rw (e, replaced)
 
 -- ---- the piece at a position
 module _ (s : List ℕ) (i : ℕ) (h : i < length s) where
-  pub byte_kept : reference_at s i ≡ Nothing → replaced 0 (drop i s) ≡ get_or s i 0 ∷ replaced 0 (drop (i + 1) s)
+  pub byte_kept : reference_at s i ≡ None → replaced 0 (drop i s) ≡ get_or s i 0 ∷ replaced 0 (drop (i + 1) s)
   byte_kept e = rw (drop_here s i h) (kept (get_or s i 0) (drop (i + 1) s) (rw (drop_here s i h) at e))
 
   pub byte_plain : (get_or s i 0 ≡ code "&" → ⊥) → replaced 0 (drop i s) ≡ get_or s i 0 ∷ replaced 0 (drop (i + 1) s)
   byte_plain a = rw (drop_here s i h) (kept (get_or s i 0) (drop (i + 1) s) (plain (get_or s i 0) (drop (i + 1) s) a))
 
-  pub reference_gone : (w c : ℕ) → reference_at s i ≡ Char w c → replaced 0 (drop i s) ≡ encoded c ++ replaced 0 (drop (i + w) s)
+  pub reference_gone : (w c : ℕ) → reference_at s i ≡ refers w c → replaced 0 (drop i s) ≡ encoded c ++ replaced 0 (drop (i + w) s)
   reference_gone w c e =
       let g : 4 ≤ w = reference_least s i w c e in
       let a : i + 1 + (w - 1) ≡ i + w = omega arith in
@@ -62,11 +63,11 @@ unfolding replaced
 shorter k [] = omega arith
 shorter zero (x ∷ xs) = go (reference_of (x ∷ xs)) refl (shorter 0 xs) (λ w. shorter (w - 1) xs)
   where
-    go : (r : Reference) → reference_of (x ∷ xs) ≡ r → length (replaced 0 xs) ≤ length xs - 0 → ((w : ℕ) → length (replaced (w - 1) xs) ≤ length xs - (w - 1)) → length (replaced 0 (x ∷ xs)) ≤ suc (length xs) - 0
-    go (Char w c) e h g =
-        rw (gone x xs w c e)
-        (omega (arith, length-append (encoded c) (replaced (w - 1) xs), g w, reference_least (x ∷ xs) 0 w c e, reference_fits (x ∷ xs) 0 w c e, reference_room (x ∷ xs) 0 w c e))
-    go Nothing e h g = rw (kept x xs e) (omega arith)
+    go : (r : Option Reference) → reference_of (x ∷ xs) ≡ r → length (replaced 0 xs) ≤ length xs - 0 → ((w : ℕ) → length (replaced (w - 1) xs) ≤ length xs - (w - 1)) → length (replaced 0 (x ∷ xs)) ≤ suc (length xs) - 0
+    go (Some p) e h g =
+        rw (gone x xs p.width p.character e)
+        (omega (arith, length-append (encoded p.character) (replaced (p.width - 1) xs), g p.width, reference_least (x ∷ xs) 0 p.width p.character e, reference_fits (x ∷ xs) 0 p.width p.character e, reference_room (x ∷ xs) 0 p.width p.character e))
+    go None e h g = rw (kept x xs e) (omega arith)
 shorter (suc k) (x ∷ xs) = omega (arith, shorter k xs)
 
 pub replaced_most : (xs : List ℕ) → length (replaced 0 xs) ≤ length xs

@@ -1,5 +1,6 @@
 -- The loop of `decode_at`: what is still to be stored, stored from here, makes what the whole stored from the start makes.
 -- Assumes nothing.
+use Rattle.std.specs.Prelude.{Option, Some, None}
 use mathlib.Core.Path.{◌≡◌, sym, ◌∙◌, ap}
 use mathlib.Core.List.{List, [], ◌∷◌, ◌++◌}
 use Prim.Native.Nat.{ℕ, suc, ◌+◌, ◌-◌, ◌*◌, ◌<◌, ◌≤◌, ◌^◌}
@@ -14,7 +15,6 @@ use Rattle.text_encode.specs.Encode.{encoded}
 use Rattle.text_encode.specs.Places.{up_to}
 use Rattle.text_encode.proofs.Stores.{among, behind, up_to_most, sets_up_to}
 use Rattle.xml_references.specs.declared.Reference.{Reference}
-use Rattle.xml_references.specs.declared.Reference.TheVariants.{Char, Nothing}
 use Rattle.xml_references.specs.References.{reference_at}
 use Rattle.xml_references.specs.Decoded.{replaced, part, decoded}
 use Rattle.xml_references.proofs.Replaced.{byte_kept, byte_plain, reference_gone, replaced_most, decoded_most}
@@ -56,7 +56,7 @@ module _ (raw out₀ : List ℕ) (start : ℕ) (out : List ℕ) (n i : ℕ) (l :
     pub plain_fits : (at : ℕ) → start ≡ up_to (length out₀) at → length out₀ * 1 < 2 ^ 63 → length raw * 1 < 2 ^ 63 → Fits w64 (n + 1)
     plain_fits at e q r = fits at e q r 1 (omega (arith, ap length (byte_plain raw i h a)))
 
-  module _ (h : i < length raw) (x : Reference) (ex : x ≡ reference_at raw i) (z : x ≡ Nothing) where
+  module _ (h : i < length raw) (x : Option Reference) (ex : x ≡ reference_at raw i) (z : x ≡ None) where
     pub kept_wrote : (out' : List ℕ) → out' ≡ set out n (get_or raw i 0) → Wrote raw out₀ start out' (n + 1) (i + 1)
     kept_wrote = wrote (byte_kept raw i h (sym ex ∙ z))
 
@@ -64,20 +64,20 @@ module _ (raw out₀ : List ℕ) (start : ℕ) (out : List ℕ) (n i : ℕ) (l :
     kept_fits at e q r = fits at e q r 1 (omega (arith, ap length (byte_kept raw i h (sym ex ∙ z))))
 
   -- ---- a reference that is replaced
-  module _ (h : i < length raw) (x : Reference) (w c : ℕ) (ex : x ≡ reference_at raw i) (z : x ≡ Char w c) where
-    gone : left raw i ≡ encoded c ++ left raw (i + w)
-    gone = reference_gone raw i h w c (sym ex ∙ z)
+  module _ (h : i < length raw) (x : Option Reference) (found : Reference) (ex : x ≡ reference_at raw i) (z : x ≡ Some found) where
+    gone : left raw i ≡ encoded found.character ++ left raw (i + found.width)
+    gone = reference_gone raw i h found.width found.character (sym ex ∙ z)
 
-    sizes : length (left raw i) ≡ length (encoded c) + length (left raw (i + w))
-    sizes = ap length gone ∙ length-append (encoded c) (left raw (i + w))
+    sizes : length (left raw i) ≡ length (encoded found.character) + length (left raw (i + found.width))
+    sizes = ap length gone ∙ length-append (encoded found.character) (left raw (i + found.width))
 
-    module _ (k : ℕ) (ek : k ≡ length (encoded c)) where
+    module _ (k : ℕ) (ek : k ≡ length (encoded found.character)) where
       pub code_fits : (at : ℕ) → start ≡ up_to (length out₀) at → length out₀ * 1 < 2 ^ 63 → length raw * 1 < 2 ^ 63 → Fits w64 (n + k)
       code_fits at e q r = fits at e q r k (omega (arith, sizes))
 
-      pub code_wrote : (out' : List ℕ) → out' ≡ sets out n (encoded c) → Wrote raw out₀ start out' (n + k) (i + w)
+      pub code_wrote : (out' : List ℕ) → out' ≡ sets out n (encoded found.character) → Wrote raw out₀ start out' (n + k) (i + found.width)
       code_wrote out' e =
-          rw (ek, e) (sym (sets_append (encoded c) (left raw (i + w)) out n) ∙ ap (sets out n) (sym gone) ∙ l.0, omega (arith, sizes, l.1), length-sets out n (encoded c) ∙ l.2)
+          rw (ek, e) (sym (sets_append (encoded found.character) (left raw (i + found.width)) out n) ∙ ap (sets out n) (sym gone) ∙ l.0, omega (arith, sizes, l.1), length-sets out n (encoded found.character) ∙ l.2)
 
   -- ---- at the end
   module _ (h : length raw ≤ i) where

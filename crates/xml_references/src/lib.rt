@@ -10,16 +10,14 @@ ghost use Rattle.xml_references.specs.Runs.{value_end, text_end};
 ghost use Rattle.xml_references.specs.Quiet.{quiet_for};
 ghost use Rattle.xml_references.specs.Decoded.{replaced, decoded};
 
-use text_scan::Found;
-
-// The character that a reference stands for, with the reference's width in bytes, where one stands.
+// A reference: its width in bytes, and the character that it stands for.
 #[derive(Clone, Copy)]
-pub enum Reference {
-    Char(usize, u32),
-    Nothing,
+pub struct Reference {
+    pub width: usize,
+    pub character: u32,
 }
 
-// What a digit stands for, or 255.
+// What a digit stands for, or 255, which is past every base: so one comparison asks for a digit of the base, and an Option would need two.
 fn digit(b: u8) -> u8
     ensures { result ≡ digit_value b }
 {
@@ -45,58 +43,74 @@ fn digit(b: u8) -> u8
 }
 
 // Digits and a semicolon, `start` bytes behind i. A value past the last code point stays there, and is given up at once.
-fn number_at(s: &[u8], i: usize, start: usize, base: u32) -> Reference
+fn number_at(s: &[u8], i: usize, start: usize, base: u32) -> Option<Reference>
     requires { (i + start ≤ length s.now) × (0 < base) × (base ≤ 16) }
     ensures { result ≡ number base 0 start (drop (i + start) s.now) }
 {
-    let mut w = start;
     let mut v: u32 = 0;
-    while w < s.len() - i {
+    for w in start..s.len() - i {
         let b = s[i + w];
         let d = digit(b) as u32;
         if d < base {
             v = v * base + d;
             if 0x10FFFF < v {
-                return Reference::Nothing;
+                return None;
             }
-            w += 1;
             continue;
         }
         if b != b';' {
-            return Reference::Nothing;
+            return None;
         }
         if text_chars::is_char(v) {
-            return Reference::Char(w + 1, v);
+            return Some(Reference {
+                width: w + 1,
+                character: v,
+            });
         }
-        return Reference::Nothing;
+        return None;
     }
-    Reference::Nothing
+    None
 }
 
 // One of the five names.
-fn name_at(s: &[u8], i: usize) -> Reference
+fn name_at(s: &[u8], i: usize) -> Option<Reference>
     ensures { result ≡ entity_named names (drop i s.now) }
 {
     if text_scan::text_at(s, i, b"&lt;") {
-        return Reference::Char(4, 60);
+        return Some(Reference {
+            width: 4,
+            character: 60,
+        });
     }
     if text_scan::text_at(s, i, b"&gt;") {
-        return Reference::Char(4, 62);
+        return Some(Reference {
+            width: 4,
+            character: 62,
+        });
     }
     if text_scan::text_at(s, i, b"&amp;") {
-        return Reference::Char(5, 38);
+        return Some(Reference {
+            width: 5,
+            character: 38,
+        });
     }
     if text_scan::text_at(s, i, b"&apos;") {
-        return Reference::Char(6, 39);
+        return Some(Reference {
+            width: 6,
+            character: 39,
+        });
     }
     if text_scan::text_at(s, i, b"&quot;") {
-        return Reference::Char(6, 34);
+        return Some(Reference {
+            width: 6,
+            character: 34,
+        });
     }
-    Reference::Nothing
+    None
 }
 
 // The reference that stands at i.
-pub fn reference_at(s: &[u8], i: usize) -> Reference
+pub fn reference_at(s: &[u8], i: usize) -> Option<Reference>
     ensures { result ≡ reference_at s.now i }
 {
     if text_scan::text_at(s, i, b"&#x") {
@@ -114,11 +128,9 @@ fn quiet_block(s: &[u8], i: usize) -> bool
     ensures { result ≡ quiet_for s.now i 8 }
 {
     let mut all = true;
-    let mut k = 0;
-    while k < 8 {
+    for k in 0..8 {
         let b = s[i + k];
         all = all & (39 < b) & (b != 60);
-        k += 1;
     }
     all
 }
@@ -135,12 +147,8 @@ fn past_quiet(s: &[u8], at: usize, quote: u8) -> usize
     }
     let last = s.len() - 8;
     let mut i = at;
-    while i <= last {
-        if quiet_block(s, i) {
-            i += 8;
-            continue;
-        }
-        return i;
+    while i <= last && quiet_block(s, i) {
+        i += 8;
     }
     i
 }
@@ -157,13 +165,13 @@ fn last_mark(quote: u8) -> u8
 
 // The place of the quote that closes the value which begins at `at`. In a value that is not empty, quiet blocks are passed over first; behind them all above
 // the quote and '&' but `<` is a part of the value.
-pub fn value_end(s: &[u8], at: usize, quote: u8) -> Found
+pub fn value_end(s: &[u8], at: usize, quote: u8) -> Option<usize>
     ensures { result ≡ value_end s.now quote at }
 {
     if at < s.len() {
         let first = s[at];
         if first == quote {
-            return Found::At(at);
+            return Some(at);
         }
     }
     let high = last_mark(quote);
@@ -172,27 +180,27 @@ pub fn value_end(s: &[u8], at: usize, quote: u8) -> Found
         let b = s[i];
         if high < b {
             if b == b'<' {
-                return Found::Nothing;
+                return None;
             }
             i += 1;
             continue;
         }
         if b == quote {
-            return Found::At(i);
+            return Some(i);
         }
         if b == b'<' {
-            return Found::Nothing;
+            return None;
         }
         if b != b'&' {
             i += 1;
             continue;
         }
-        let Reference::Char(w, _) = reference_at(s, i) else {
-            return Found::Nothing;
+        let Some(found) = reference_at(s, i) else {
+            return None;
         };
-        i += w;
+        i += found.width;
     }
-    Found::Nothing
+    None
 }
 
 // Whether `]]>` stands at i, which no text may hold.
@@ -203,18 +211,18 @@ fn closes(s: &[u8], i: usize) -> bool
 }
 
 // The place of the next `<` from `at` on, or the length.
-pub fn text_end(s: &[u8], at: usize) -> Found
+pub fn text_end(s: &[u8], at: usize) -> Option<usize>
     ensures { result ≡ text_end s.now at }
 {
     let mut i = at;
     while i < s.len() {
         let here = s[i];
         if here == b'<' {
-            return Found::At(i);
+            return Some(i);
         }
         if here == b']' {
             if closes(s, i) {
-                return Found::Nothing;
+                return None;
             }
             i += 1;
             continue;
@@ -223,12 +231,12 @@ pub fn text_end(s: &[u8], at: usize) -> Found
             i += 1;
             continue;
         }
-        let Reference::Char(w, _) = reference_at(s, i) else {
-            return Found::Nothing;
+        let Some(found) = reference_at(s, i) else {
+            return None;
         };
-        i += w;
+        i += found.width;
     }
-    Found::At(s.len())
+    Some(s.len())
 }
 
 // Stores what the raw bytes say from `at` on, as far as there is a place, and answers how many bytes that is.
@@ -246,14 +254,14 @@ pub fn decode_at(raw: &[u8], out: &mut [u8], at: usize) -> usize
             i += 1;
             continue;
         }
-        let Reference::Char(w, c) = reference_at(raw, i) else {
+        let Some(found) = reference_at(raw, i) else {
             text_encode::put(b, out, n);
             n += 1;
             i += 1;
             continue;
         };
-        n += text_encode::encode(c, out, n);
-        i += w;
+        n += text_encode::encode(found.character, out, n);
+        i += found.width;
     }
     n - start
 }

@@ -1,13 +1,14 @@
 // Whether a tag of many attributes has two of the same name.
 #![tactic(auto)]
 
-ghost use Rattle.std.specs.Prelude.{◌≡◌, ◌*◌, ◌≤◌, length, set};
+ghost use Rattle.std.specs.Prelude.{◌≡◌, ◌+◌, ◌*◌, ◌<◌, ◌≤◌, length, set};
 ghost use Rattle.std.proofs.lemmas.List.Edits.{sets};
+ghost use Rattle.xml_names.specs.Names.{name_at, name_end};
 ghost use Rattle.xml_reader.specs.Limits.{document_limit};
 ghost use Rattle.xml_attributes.specs.Chains.{items};
 ghost use Rattle.xml_attributes.specs.Parts.{attributes, some_named, repeated};
 
-use xml_attributes::TagPart;
+use xml_attributes::{Attribute, Attributes, TagPart};
 use xml_reader::Reader;
 
 // Places for the attributes of a tag: an attribute has at least 5 bytes, with the space before it, so no document within the limit has
@@ -20,46 +21,22 @@ const HALF: usize = PLACES / 2;
 fn named_from(s: &[u8], t: &[u8], at: usize) -> bool
     ensures { result ≡ some_named t.now s.now (items (attributes s.now at)) }
 {
-    let mut i = at;
-    while i < s.len() {
-        let TagPart::Read {
-            at: b,
-            name_end: _,
-            value: _,
-            value_end: e,
-        } = xml_attributes::part_at(s, i)
-        else {
-            return false;
-        };
-        if xml_names::name_is(s, b, t) {
-            return true;
-        }
-        i = e + 1;
-    }
-    false
+    Attributes { s, at }.any(|a| xml_names::name_is(s, a.at, t))
+}
+
+// Whether an attribute behind a has its name.
+fn named_behind(s: &[u8], a: Attribute) -> bool
+    requires { (a.name_end ≡ name_end s.now a.at) × (a.at ≤ a.name_end) × (a.name_end ≤ length s.now) × (a.value_end < length s.now) }
+    ensures { result ≡ some_named (name_at s.now a.at) s.now (items (attributes s.now (a.value_end + 1))) }
+{
+    named_from(s, &s[a.at..a.name_end], a.value_end + 1)
 }
 
 // Whether a tag whose name ends at `at` has two attributes of the same name, however many it has. The time is the square of their number.
 fn repeats_slowly(s: &[u8], at: usize) -> bool
     ensures { result ≡ repeated s.now (items (attributes s.now at)) }
 {
-    let mut i = at;
-    while i < s.len() {
-        let TagPart::Read {
-            at: b,
-            name_end: n,
-            value: _,
-            value_end: e,
-        } = xml_attributes::part_at(s, i)
-        else {
-            return false;
-        };
-        if named_from(s, &s[b..n], e + 1) {
-            return true;
-        }
-        i = e + 1;
-    }
-    false
+    Attributes { s, at }.any(|a| named_behind(s, a))
 }
 
 // Keeps b at place k, where there is one.
@@ -79,21 +56,10 @@ fn collect(s: &[u8], at: usize, starts: &mut [u32]) -> usize
     requires { length s.now ≤ document_limit }
     ensures { (result ≡ length (items (attributes s.now at))) × (starts.new ≡ sets starts.old 0 (items (attributes s.now at))) }
 {
-    let mut i = at;
     let mut count = 0;
-    while i < s.len() {
-        let TagPart::Read {
-            at: b,
-            name_end: _,
-            value: _,
-            value_end: e,
-        } = xml_attributes::part_at(s, i)
-        else {
-            return count;
-        };
-        keep_place(starts, count, b);
+    for a in (Attributes { s, at }) {
+        keep_place(starts, count, a.at);
         count += 1;
-        i = e + 1;
     }
     count
 }
@@ -133,17 +99,11 @@ pub fn repeats(s: &[u8], at: usize, count: usize) -> bool
     if count <= PLACES {
         return repeats_sorted(s, at);
     }
-    let TagPart::Read {
-        at: b,
-        name_end: n,
-        value: _,
-        value_end: e,
-    } = xml_attributes::part_at(s, at)
-    else {
+    let TagPart::Read(a) = xml_attributes::part_at(s, at) else {
         return false;
     };
-    if repeats(s, e + 1, count - 1) {
+    if repeats(s, a.value_end + 1, count - 1) {
         return true;
     }
-    named_from(s, &s[b..n], e + 1)
+    named_behind(s, a)
 }

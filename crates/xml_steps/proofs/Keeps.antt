@@ -1,5 +1,7 @@
 -- A sound reading stays sound at each piece, and goes on behind it.
 -- Assumes nothing.
+use Rattle.refusals.specs.declared.Reason.TheVariants.{Malformed, PastLimit}
+use Rattle.refusals.specs.declared.Reason.{Reason}
 use mathlib.Core.Path.{◌≡◌, refl, ◌∙◌, subst}
 use mathlib.Core.Bool.{Bool, true, false}
 use mathlib.Core.List.{List, ◌++◌}
@@ -129,15 +131,15 @@ pub closing_on : (s : List ℕ) (r t : Reading) (j : ℕ) → closing s r j ≡ 
 unfolding closing
 closing_on s r t j e = go (is_named s r) (content_fits r) e
   where
-    go : (a b : Bool) → pick a (pick b (on (closed r j)) (out (refused 8 r.at))) (out (refused 7 r.at)) ≡ on t → closed r j ≡ t
-    go true b e = (chosen b (closed r j) t (refused 8 r.at) e).1
+    go : (a b : Bool) → pick a (pick b (on (closed r j)) (out (refused PastLimit r.at))) (out (refused Malformed r.at)) ≡ on t → closed r j ≡ t
+    go true b e = (chosen b (closed r j) t (refused PastLimit r.at) e).1
     go false b e = never_on _ t e
 
 module _ (s : List ℕ) (r t : Reading) (j : ℕ) (d : Sound (length s) r) (ahead : r.at < j) (in-text : j ≤ length s) where
   adding_sound : (depth top : ℕ) → depth ≤ r.count + 1 → top ≤ r.count → adding r j depth top ≡ on t → Sound (length s) t
   unfolding adding
   adding_sound depth top hd ht e =
-      let c = chosen (has_element_room r) (added r j depth top) t (refused 8 r.at) e in
+      let c = chosen (has_element_room r) (added r j depth top) t (refused PastLimit r.at) e in
       subst (Sound (length s)) c.1 (sound_added (length s) r j d ahead in-text depth top c.0 hd ht)
 
   passed_sound : ◌≡◌ {A = Turn Reading Read} (on (passed r j)) (on t) → Sound (length s) t
@@ -166,8 +168,8 @@ behind_piece s r t (Piece Empty j) w e = subst (λ (u : Reading). r.at < u.at) (
 behind_piece s r t (Piece End j) w e = subst (λ (u : Reading). r.at < u.at) (closing_on s r t j e) w.0
 
 -- a turn that ends at a piece is a refusal
-module _ (P : Read → Type 0) (each : (n place : ℕ) → P (refused n place)) (s : List ℕ) (r : Reading) (x : Read) where
-  picked_out : (b : Bool) (t : Reading) (n : ℕ) → pick b (on t) (out (refused n r.at)) ≡ out x → P x
+module _ (P : Read → Type 0) (each : (n : Reason) (place : ℕ) → P (refused n place)) (s : List ℕ) (r : Reading) (x : Read) where
+  picked_out : (b : Bool) (t : Reading) (n : Reason) → pick b (on t) (out (refused n r.at)) ≡ out x → P x
   picked_out true t n e = never_out t x e
   picked_out false t n e = subst P (gone (refused n r.at) x e) (each n r.at)
 
@@ -175,9 +177,9 @@ module _ (P : Read → Type 0) (each : (n place : ℕ) → P (refused n place)) 
   unfolding closing
   closing_out j e = go (is_named s r) e
     where
-      go : (a : Bool) → pick a (pick (content_fits r) (on (closed r j)) (out (refused 8 r.at))) (out (refused 7 r.at)) ≡ out x → P x
-      go true e = picked_out (content_fits r) (closed r j) 8 e
-      go false e = subst P (gone (refused 7 r.at) x e) (each 7 r.at)
+      go : (a : Bool) → pick a (pick (content_fits r) (on (closed r j)) (out (refused PastLimit r.at))) (out (refused Malformed r.at)) ≡ out x → P x
+      go true e = picked_out (content_fits r) (closed r j) PastLimit e
+      go false e = subst P (gone (refused Malformed r.at) x e) (each Malformed r.at)
 
   pub piece_out : (p : Scanned) → by_piece s r p ≡ out x → P x
   unfolding by_piece adding
@@ -186,6 +188,6 @@ module _ (P : Read → Type 0) (each : (n place : ℕ) → P (refused n place)) 
   piece_out (Piece Comment j) e = never_out (passed r j) x e
   piece_out (Piece Instruction j) e = never_out (passed r j) x e
   piece_out (Piece Declaration j) e = never_out (passed r j) x e
-  piece_out (Piece Start j) e = picked_out (has_element_room r) (added r j (r.depth + 1) r.count) 8 e
-  piece_out (Piece Empty j) e = picked_out (has_element_room r) (added r j r.depth r.top) 8 e
+  piece_out (Piece Start j) e = picked_out (has_element_room r) (added r j (r.depth + 1) r.count) PastLimit e
+  piece_out (Piece Empty j) e = picked_out (has_element_room r) (added r j r.depth r.top) PastLimit e
   piece_out (Piece End j) e = closing_out j e

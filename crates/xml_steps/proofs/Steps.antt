@@ -1,5 +1,8 @@
 -- The steps of a reading, by the branches in which the code looks.
 -- Assumes nothing.
+use Rattle.std.specs.Prelude.{Result, Ok, Err}
+use Rattle.refusals.specs.declared.Reason.TheVariants.{Malformed, PastLimit}
+use Rattle.refusals.specs.declared.Reason.{Reason}
 use mathlib.Core.Path.{◌≡◌, refl, sym, subst}
 use mathlib.Core.Bool.{Bool, true, false}
 use mathlib.Core.List.{List, ◌++◌}
@@ -21,8 +24,6 @@ use mir.Syntax.{w64}
 use Rattle.xml_pieces.specs.declared.Kind.{Kind}
 use Rattle.xml_pieces.specs.declared.Kind.TheVariants.{Text, Comment, Instruction, Declaration, Start, Empty, End}
 use Rattle.xml_pieces.specs.declared.Scanned.TheVariants.{Piece}
-use Rattle.xml_steps.specs.declared.Stepped.{Stepped}
-use Rattle.xml_steps.specs.declared.Stepped.TheVariants.{On, Stopped}
 use Rattle.xml_steps.specs.Reading.{Reading, Read, element_row, passed, adding, is_named, content_fits, closing, document_part, by_piece}
 use Rattle.xml_steps.specs.Walked.{reading, turn_of, Steps, Roomy}
 
@@ -53,15 +54,15 @@ roomy_kept n new old e w = record { room = λ count h g. omega (arith, w.room co
 
 -- ---- an element is added
 module _ (d : Reader) (numbers : List ℕ) (after depth top : ℕ) where
-  pub too_many : elements_limit ≤ d.count → turn_of d.at (Stopped 8) numbers ≡ adding (reading d numbers) after depth top
+  pub too_many : elements_limit ≤ d.count → turn_of d.at (Err PastLimit) numbers ≡ adding (reading d numbers) after depth top
   unfolding reading turn_of adding closing
   too_many h = rw (le-ltb _ elements_limit h)
 
-  pub too_deep : depth_limit ≤ d.depth → turn_of d.at (Stopped 8) numbers ≡ adding (reading d numbers) after depth top
+  pub too_deep : depth_limit ≤ d.depth → turn_of d.at (Err PastLimit) numbers ≡ adding (reading d numbers) after depth top
   unfolding reading turn_of adding closing
   too_deep h = rw (le-ltb _ depth_limit h, and_false (ltb d.count elements_limit))
 
-  pub room_left : (numbers' : List ℕ) → d.count < elements_limit → d.depth < depth_limit → take (4 * d.count + 4) numbers' ≡ take (4 * d.count) numbers ++ element_row d.count d.top d.at after → turn_of d.at (On (record { at = after; count = d.count + 1; depth = depth; top = top })) numbers' ≡ adding (reading d numbers) after depth top
+  pub room_left : (numbers' : List ℕ) → d.count < elements_limit → d.depth < depth_limit → take (4 * d.count + 4) numbers' ≡ take (4 * d.count) numbers ++ element_row d.count d.top d.at after → turn_of d.at (Ok (record { at = after; count = d.count + 1; depth = depth; top = top })) numbers' ≡ adding (reading d numbers) after depth top
   unfolding reading turn_of adding closing
   room_left numbers' h g e =
       let q : 4 * (d.count + 1) ≡ 4 * d.count + 4 = omega arith in
@@ -138,16 +139,16 @@ module _ (s : List ℕ) (d : Reader) (numbers : List ℕ) (after : ℕ) (k : Ste
     unfolding reading turn_of adding closing
     named = rw (in_front numbers (4 * d.count) (4 * d.top + 2) (omega (arith, top_low))) (sym e)
 
-    pub other_name : t ≡ false → turn_of d.at (Stopped 7) numbers ≡ closing s (reading d numbers) after
+    pub other_name : t ≡ false → turn_of d.at (Err Malformed) numbers ≡ closing s (reading d numbers) after
     unfolding reading turn_of adding closing
     other_name f = rw (named, f)
 
     module _ (f : t ≡ true) (u : Bool) (q : u ≡ content_fits (reading d numbers)) where
-      pub too_long : u ≡ false → turn_of d.at (Stopped 8) numbers ≡ closing s (reading d numbers) after
+      pub too_long : u ≡ false → turn_of d.at (Err PastLimit) numbers ≡ closing s (reading d numbers) after
       unfolding reading turn_of adding closing
       too_long h = rw (named, f, ← q, h)
 
-      pub is_closed : u ≡ true → turn_of d.at (On (record { at = after; count = d.count; depth = d.depth - 1; top = get_or numbers (4 * d.top + 1) 0 })) (set numbers (4 * d.top + 3) after) ≡ closing s (reading d numbers) after
+      pub is_closed : u ≡ true → turn_of d.at (Ok (record { at = after; count = d.count; depth = d.depth - 1; top = get_or numbers (4 * d.top + 1) 0 })) (set numbers (4 * d.top + 3) after) ≡ closing s (reading d numbers) after
       unfolding reading turn_of adding closing
       is_closed h =
           rw (named, f, ← q, h, take-set-lt (4 * d.count) numbers (4 * d.top + 3) after (omega (arith, top_low)), in_front numbers (4 * d.count) (4 * d.top + 1) (omega (arith, top_low)))
@@ -204,7 +205,7 @@ module _ (s : List ℕ) (d : Reader) (numbers : List ℕ) (after : ℕ) (kind : 
   by_declaration e f = rw e f
 
 -- a piece that is no tag, as the code makes it
-pub is_passed : (d : Reader) (numbers : List ℕ) (after : ℕ) (x : Stepped) → x ≡ On (record { at = after; count = d.count; depth = d.depth; top = d.top }) → turn_of d.at x numbers ≡ on (passed (reading d numbers) after)
+pub is_passed : (d : Reader) (numbers : List ℕ) (after : ℕ) (x : Result Reader Reason) → x ≡ Ok (record { at = after; count = d.count; depth = d.depth; top = d.top }) → turn_of d.at x numbers ≡ on (passed (reading d numbers) after)
 unfolding reading turn_of
 is_passed d numbers after x e = rw e
 

@@ -2,6 +2,8 @@
 -- element gets a row of four numbers.
 -- Assumes nothing.
 use Rattle.std.specs.Prelude.{ℕ, zero, suc, ◌+◌, ◌-◌, ◌*◌, Bool, List, [], ◌∷◌, ◌++◌, leb, ltb, get_or, set}
+use Rattle.refusals.specs.declared.Reason.TheVariants.{Malformed, PastLimit}
+use Rattle.refusals.specs.declared.Reason.{Reason}
 use Rattle.text_scan.specs.Choice.{pick, ◌or◌, ◌and◌}
 use Rattle.text_scan.specs.Turns.{Turn, on, out}
 use Rattle.text_facts.specs.Strings.{equal}
@@ -65,9 +67,9 @@ is_named s r = equal (name_at s (first_of r.rows r.top + 1)) (name_at s (r.at + 
 abbrev pub content_fits : Reading → Bool
 content_fits r = ltb (r.top + 1) r.count or leb (r.at - after_of r.rows r.top) value_limit
 
--- the answer: a refusal's number and place, or the rows of all elements
+-- the answer: a refusal with its place, or the rows of all elements
 pub data Read : Type 0 where
-  refused : ℕ → ℕ → Read
+  refused : Reason → ℕ → Read
   elements : ℕ → List ℕ → Read
 
 abbrev pub document_part : ℕ → ℕ → DocumentPart
@@ -77,12 +79,12 @@ document_part (suc count) zero = After
 
 -- a tag adds an element where there is room
 unfoldable pub adding : Reading → ℕ → ℕ → ℕ → Turn Reading Read
-adding r after depth top = pick (has_element_room r) (on (added r after depth top)) (out (refused 8 r.at))
+adding r after depth top = pick (has_element_room r) (on (added r after depth top)) (out (refused PastLimit r.at))
 
 -- an end tag closes the innermost open element where the name is the same and the content within the limit
 unfoldable pub closing : List ℕ → Reading → ℕ → Turn Reading Read
 closing s r after =
-    pick (is_named s r) (pick (content_fits r) (on (closed r after)) (out (refused 8 r.at))) (out (refused 7 r.at))
+    pick (is_named s r) (pick (content_fits r) (on (closed r after)) (out (refused PastLimit r.at))) (out (refused Malformed r.at))
 
 -- one piece: a start tag opens the element that it adds, an empty-element tag leaves none open, and what is no tag is read over
 unfoldable pub by_piece : List ℕ → Reading → Scanned → Turn Reading Read

@@ -1,6 +1,7 @@
 -- What the contracts of the code speak of, and no definition of document 01: what the code holds, as a reading, and what a step asks.
 -- Assumes nothing.
-use Rattle.std.specs.Prelude.{ℕ, ◌+◌, ◌*◌, ◌-◌, ◌<◌, ◌≤◌, ◌≡◌, List, length, take, drop, get_or}
+use Rattle.std.specs.Prelude.{ℕ, ◌+◌, ◌*◌, ◌-◌, ◌<◌, ◌≤◌, ◌≡◌, List, length, take, drop, get_or, Result, Ok, Err}
+use Rattle.refusals.specs.declared.Reason.{Reason}
 use Rattle.text_scan.specs.Lists.{run_from}
 use Rattle.text_scan.specs.Turns.{Turn, on, out}
 use Rattle.xml_names.specs.Names.{is_name_char}
@@ -8,16 +9,14 @@ use Rattle.xml_reader.specs.declared.Reader.{Reader}
 use Rattle.xml_reader.specs.Limits.{document_limit, elements_limit}
 use Rattle.xml_pieces.specs.declared.Kind.{Kind}
 use Rattle.xml_pieces.specs.declared.Kind.TheVariants.{End}
-use Rattle.xml_steps.specs.declared.Stepped.{Stepped}
-use Rattle.xml_steps.specs.declared.Stepped.TheVariants.{On, Stopped}
 use Rattle.xml_steps.specs.Reading.{Reading, Read, refused, parent_of}
 
 unfoldable pub reading : Reader → List ℕ → Reading
 reading d numbers = record { at = d.at; count = d.count; depth = d.depth; top = d.top; rows = take (4 * d.count) numbers }
 
-unfoldable pub turn_of : ℕ → Stepped → List ℕ → Turn Reading Read
-turn_of at (On d) numbers = on (reading d numbers)
-turn_of at (Stopped n) numbers = out (refused n at)
+unfoldable pub turn_of : ℕ → Result Reader Reason → List ℕ → Turn Reading Read
+turn_of at (Ok d) numbers = on (reading d numbers)
+turn_of at (Err n) numbers = out (refused n at)
 
 -- the bytes of a name from position i on, whether a name starts there or not
 unfoldable pub name_bytes : List ℕ → ℕ → List ℕ

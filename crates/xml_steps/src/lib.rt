@@ -1,7 +1,7 @@
 // What one piece of a document does to the reading of it: elements are added and closed, within the limits.
 #![tactic(auto)]
 
-ghost use Rattle.std.specs.Prelude.{◌≡◌, ◌+◌, ◌*◌, ◌≤◌, ◌<◌, ◌++◌, length, take, get_or};
+ghost use Rattle.std.specs.Prelude.{◌≡◌, ◌+◌, ◌*◌, ◌≤◌, ◌<◌, ◌++◌, length, take, get_or, Ok};
 ghost use Rattle.text_scan.specs.Choice.{◌and◌, not};
 ghost use Rattle.xml_reader.specs.Limits.{document_limit, elements_limit};
 ghost use Rattle.xml_names.specs.Names.{is_name_start, is_name_char, name_at};
@@ -11,15 +11,9 @@ ghost use Rattle.xml_pieces.specs.declared.Scanned.{Scanned};
 ghost use Rattle.xml_steps.specs.Reading.{element_row, document_part, adding, closing, by_piece, content_fits};
 ghost use Rattle.xml_steps.specs.Walked.{reading, turn_of, name_bytes, Roomy, Steps};
 
+use refusals::Reason;
 use xml_pieces::{DocumentPart, Kind, Scanned};
 use xml_reader::Reader;
-
-// What follows a piece: the reader goes on, or stops with a refusal's number.
-#[derive(Clone, Copy)]
-pub enum Stepped {
-    On(Reader),
-    Stopped(u32),
-}
 
 pub fn part_of(count: usize, depth: usize) -> DocumentPart
     ensures { result ≡ document_part count depth }
@@ -46,23 +40,29 @@ fn put_row(rows: &mut [u32], n: usize, parent: usize, first: usize, after: usize
 }
 
 // A tag adds an element, where the limits leave room; then `depth` are open, the innermost of number `top`.
-fn add(reader: Reader, after: usize, depth: usize, top: usize, rows: &mut [u32]) -> Stepped
+fn add(
+    reader: Reader,
+    after: usize,
+    depth: usize,
+    top: usize,
+    rows: &mut [u32],
+) -> Result<Reader, Reason>
     requires { Roomy (reader.count + 1) rows.old × (reader.at ≤ document_limit) × (reader.top ≤ document_limit) × (after ≤ document_limit) }
     ensures { (turn_of reader.at result rows.new ≡ adding (reading reader rows.old) after depth top) × (length rows.new ≡ length rows.old) }
 {
     let count = reader.count;
     if Reader::ELEMENTS <= count {
-        return Stepped::Stopped(8);
+        return Err(Reason::PastLimit);
     }
     if Reader::DEPTH <= reader.depth {
-        return Stepped::Stopped(8);
+        return Err(Reason::PastLimit);
     }
     put_row(rows, count, reader.top, reader.at, after);
-    Stepped::On(Reader {
+    Ok(Reader {
         at: after,
         count: count + 1,
-        depth: depth,
-        top: top,
+        depth,
+        top,
     })
 }
 
@@ -110,7 +110,8 @@ fn both_over(s: &[u8], a: usize, b: usize) -> bool
     false
 }
 
-// Whether the bytes of names from two places on are the same. As long as they are, those of one tell whether both names go on.
+// Whether the bytes of names from two places on are the same. As long as they are, those of one tell whether both names go on. No `zip`: where the
+// bytes run out, the place reached behind i is asked.
 fn same_bytes(s: &[u8], i: usize, j: usize) -> bool
     requires { i ≤ j }
     ensures { result ≡ equal (name_bytes s.now i) (name_bytes s.now j) }
@@ -146,7 +147,7 @@ fn same_name(s: &[u8], i: usize, j: usize) -> bool
 }
 
 // An end tag closes the innermost open element.
-fn close(s: &[u8], reader: Reader, after: usize, rows: &mut [u32]) -> Stepped
+fn close(s: &[u8], reader: Reader, after: usize, rows: &mut [u32]) -> Result<Reader, Reason>
     requires { Steps s.now (reading reader rows.old) End after × (4 * reader.top + 4 ≤ length rows.old) }
     ensures { (turn_of reader.at result rows.new ≡ closing s.now (reading reader rows.old) after) × (length rows.new ≡ length rows.old) }
 {
@@ -156,32 +157,36 @@ fn close(s: &[u8], reader: Reader, after: usize, rows: &mut [u32]) -> Stepped
     if same_name(s, first + 1, reader.at + 2) {
         if content_fits(reader, rows) {
             rows[k + 3] = after as u32;
-            return Stepped::On(Reader {
+            return Ok(Reader {
                 at: after,
-                count: reader.count,
                 depth: reader.depth - 1,
                 top: parent,
+                ..reader
             });
         }
-        return Stepped::Stopped(8);
+        return Err(Reason::PastLimit);
     }
-    Stepped::Stopped(7)
+    Err(Reason::Malformed)
 }
 
 // A piece that is no tag is read over.
-fn pass(reader: Reader, after: usize) -> Stepped
-    ensures { result ≡ Stepped.On (record { at = after; count = reader.count; depth = reader.depth; top = reader.top }) }
+fn pass(reader: Reader, after: usize) -> Result<Reader, Reason>
+    ensures { result ≡ Ok (record { at = after; count = reader.count; depth = reader.depth; top = reader.top }) }
 {
-    Stepped::On(Reader {
+    Ok(Reader {
         at: after,
-        count: reader.count,
-        depth: reader.depth,
-        top: reader.top,
+        ..reader
     })
 }
 
 // One piece.
-pub fn step(s: &[u8], reader: Reader, kind: Kind, after: usize, rows: &mut [u32]) -> Stepped
+pub fn step(
+    s: &[u8],
+    reader: Reader,
+    kind: Kind,
+    after: usize,
+    rows: &mut [u32],
+) -> Result<Reader, Reason>
     requires { Steps s.now (reading reader rows.old) kind after × Roomy (length s.now) rows.old }
     ensures { (turn_of reader.at result rows.new ≡ by_piece s.now (reading reader rows.old) (Scanned.Piece kind after)) × (length rows.new ≡ length rows.old) }
 {

@@ -1,5 +1,6 @@
 -- An end tag, by the pieces that the code finds in a row; and where it ends, for callers.
 -- Assumes nothing.
+use Rattle.std.specs.Prelude.{None, Some}
 use mathlib.Core.Path.{◌≡◌, sym, ◌∙◌}
 use mathlib.Core.Bool.{Bool, true, false}
 use mathlib.Core.List.{List}
@@ -14,7 +15,6 @@ use mir.Syntax.{w64}
 use Rattle.text_scan.specs.Choice.{◌and◌}
 use Rattle.text_scan.specs.Bytes.{text}
 use Rattle.text_scan.specs.Lists.{stands}
-use Rattle.text_scan.specs.declared.Found.TheVariants.{At, Nothing}
 use Rattle.text_scan.proofs.Tests.{pick_case}
 use Rattle.text_scan.proofs.Within.{there}
 use Rattle.text_scan.proofs.Lists.{text_fits}
@@ -26,7 +26,7 @@ use Rattle.xml_tags.specs.EndTags.{closed_by, end_tag_to, end_tag_end}
 use Rattle.xml_names.proofs.ElementNames.{element_least}
 
 module _ (s : List ℕ) (at : ℕ) (o : Bool) (eo : o ≡ stands (text "</") s at) where
-  pub no_end_tag : o ≡ false → Nothing ≡ end_tag_end s at
+  pub no_end_tag : o ≡ false → None ≡ end_tag_end s at
   unfolding end_tag_to
   no_end_tag f = rw (← eo, f)
 
@@ -35,7 +35,7 @@ module _ (s : List ℕ) (at : ℕ) (o : Bool) (eo : o ≡ stands (text "</") s a
     end_tag_fits l = omega (arith, text_fits (text "</") s at (omega arith) (sym eo ∙ y))
 
     module _ (n : ℕ) (en : n ≡ element_end s (at + 2)) where
-      pub no_element : n ≤ at + 2 → Nothing ≡ end_tag_end s at
+      pub no_element : n ≤ at + 2 → None ≡ end_tag_end s at
       unfolding end_tag_to
       no_element h = rw (← eo, y, ← en, le-ltb (at + 2) n h)
 
@@ -44,11 +44,11 @@ module _ (s : List ℕ) (at : ℕ) (o : Bool) (eo : o ≡ stands (text "</") s a
         unfolding end_tag_to
         named = rw (← eo, y, ← en, lt-ltb (at + 2) n h, ← ej)
 
-        pub end_tag_whole : b ≡ code ">" → At (j + 1) ≡ end_tag_end s at
+        pub end_tag_whole : b ≡ code ">" → Some (j + 1) ≡ end_tag_end s at
         unfolding closed_by
         end_tag_whole f = sym (named ∙ rw (← eb, eq-eqb b (code ">") f))
 
-        pub end_tag_open : (b ≡ code ">" → ⊥) → Nothing ≡ end_tag_end s at
+        pub end_tag_open : (b ≡ code ">" → ⊥) → None ≡ end_tag_end s at
         unfolding closed_by
         end_tag_open f = sym (named ∙ rw (← eb, ne_eqb b (code ">") f))
 

@@ -1,89 +1,78 @@
 // Tags: an element's name and attributes between `<` and `>`.
 #![tactic(auto)]
 
-ghost use Rattle.std.specs.Prelude.{◌≡◌, false, ◌+◌, ◌<◌, eqb, ltb, leb, length, drop, take, get_or, set};
+ghost use Rattle.std.specs.Prelude.{◌≡◌, false, eqb, ltb, leb, length, take, get_or, set, Ok, Err};
 ghost use Rattle.std.proofs.lemmas.List.Edits.{sets};
+ghost use Rattle.refusals.specs.declared.Reason.TheVariants.{PastLimit};
 ghost use Rattle.text_scan.specs.Choice.{pick, ◌or◌};
 ghost use Rattle.xml_names.specs.Names.{name_at};
 ghost use Rattle.xml_reader.specs.Limits.{name_limit, value_limit, attributes_limit};
-ghost use Rattle.xml_attributes.specs.declared.Tag.TheVariants.{Start, Refused};
+ghost use Rattle.xml_attributes.specs.declared.Tag.TheVariants.{Start};
 ghost use Rattle.xml_attributes.specs.Chains.{items};
 ghost use Rattle.xml_attributes.specs.Parts.{attributes, some_named, repeated};
-ghost use Rattle.xml_tags.specs.Tags.{tag_at, is_refused, faultless, opening_at};
+ghost use Rattle.xml_tags.specs.Tags.{tag_at, faultless, opening_at};
 ghost use Rattle.xml_tags.specs.Reading.{body_of};
 ghost use Rattle.xml_tags.specs.EndTags.{end_tag_end};
 
-use text_scan::Found;
-use xml_attributes::{Tag, TagPart};
+use refusals::Reason;
+use xml_attributes::{Attributes, Tag, TagPart};
 use xml_reader::Reader;
 
 // What one reading of a tag brings: how it ends, its attributes' number, and whether one of them passes a limit.
 #[derive(Clone, Copy)]
 struct Body {
-    ending: Tag,
+    ending: Result<Tag, Reason>,
     count: usize,
     over: bool,
 }
 
 // The place after the end tag that begins at `at`.
-pub fn end_tag_end(s: &[u8], at: usize) -> Found
+pub fn end_tag_end(s: &[u8], at: usize) -> Option<usize>
     ensures { result ≡ end_tag_end s.now at }
 {
     if text_scan::text_at(s, at, b"</") {
         let n = xml_names::element_end(s, at + 2);
         if n <= at + 2 {
-            return Found::Nothing;
+            return None;
         }
         let j = xml_names::space_end(s, n);
         if text_scan::byte(s, j) == 62 {
-            return Found::At(j + 1);
+            return Some(j + 1);
         }
-        return Found::Nothing;
+        return None;
     }
-    Found::Nothing
+    None
 }
 
-// Whether an attribute at one of the places behind the first k has the name t.
-fn some_named(s: &[u8], t: &[u8], starts: &[usize], k: usize) -> bool
-    ensures { result ≡ some_named t.now s.now (drop k starts.now) }
+// Whether an attribute at one of these places has the name t.
+fn some_named(s: &[u8], t: &[u8], starts: &[usize]) -> bool
+    ensures { result ≡ some_named t.now s.now starts.now }
 {
-    let mut i = k;
-    while i < starts.len() {
-        if xml_names::name_is(s, starts[i], t) {
-            return true;
-        }
-        i += 1;
-    }
-    false
+    starts.iter().any(|b| xml_names::name_is(s, *b, t))
 }
 
-// Whether an attribute behind that at place k has its name.
-fn named_again(s: &[u8], starts: &[usize], k: usize) -> bool
-    requires { k < length starts.now }
-    ensures { result ≡ some_named (name_at s.now (get_or starts.now k 0)) s.now (drop (k + 1) starts.now) }
+// Whether an attribute at one of the places behind b has the name of that at b.
+fn named_again(s: &[u8], b: usize, behind: &[usize]) -> bool
+    ensures { result ≡ some_named (name_at s.now b) s.now behind.now }
 {
-    let next = k + 1;
-    if starts.len() <= next {
+    if behind.is_empty() {
         return false;
     }
-    let b = starts[k];
     let e = xml_names::name_end(s, b);
     if s.len() < e {
-        return some_named(s, b"", starts, next);
+        return some_named(s, b"", behind);
     }
-    some_named(s, &s[b..e], starts, next)
+    some_named(s, &s[b..e], behind)
 }
 
 // Whether two of the attributes at these places have the same name.
 fn repeats_few(s: &[u8], starts: &[usize]) -> bool
     ensures { result ≡ repeated s.now starts.now }
 {
-    let mut k = 0;
-    while k < starts.len() {
-        if named_again(s, starts, k) {
+    for (k, b) in starts.iter().enumerate() {
+        if named_again(s, *b, &starts[k + 1..]) {
             return true;
         }
-        k += 1;
     }
     false
 }
@@ -111,7 +100,8 @@ fn passes(over: bool, name: usize, value: usize) -> bool
     Reader::VALUE < value
 }
 
-// Reads a tag from the end of its name on. The places of its first attributes go to `starts`.
+// Reads a tag from the end of its name on. The places of its first attributes go to `starts`. The parts are read here, and not by the iterator over
+// attributes, which does not say how the tag ends.
 fn read(s: &[u8], at: usize, starts: &mut [usize]) -> Body
     ensures { (result ≡ body_of s.now 0 false (attributes s.now at)) × (starts.new ≡ sets starts.old 0 (items (attributes s.now at))) }
 {
@@ -120,16 +110,11 @@ fn read(s: &[u8], at: usize, starts: &mut [usize]) -> Body
     let mut over = false;
     while i < s.len() {
         match xml_attributes::part_at(s, i) {
-            TagPart::Read {
-                at: b,
-                name_end: n,
-                value: v,
-                value_end: e,
-            } => {
-                keep(starts, count, b);
-                over = passes(over, n - b, e - v);
+            TagPart::Read(a) => {
+                keep(starts, count, a.at);
+                over = passes(over, a.name_end - a.at, a.value_end - a.value);
                 count += 1;
-                i = e + 1;
+                i = a.value_end + 1;
                 continue;
             }
             TagPart::Ended(t) => {
@@ -142,7 +127,7 @@ fn read(s: &[u8], at: usize, starts: &mut [usize]) -> Body
         }
     }
     Body {
-        ending: Tag::Refused(7),
+        ending: Err(Reason::Malformed),
         count,
         over,
     }
@@ -158,16 +143,6 @@ fn repeats_any(s: &[u8], at: usize, starts: &[usize], count: usize) -> bool
     xml_repeats::repeats(s, at, count)
 }
 
-fn is_refused(t: Tag) -> bool
-    ensures { result ≡ is_refused t }
-{
-    match t {
-        Tag::Start(_) => false,
-        Tag::Empty(_) => false,
-        Tag::Refused(_) => true,
-    }
-}
-
 // Whether `>` stands at n.
 fn closes(s: &[u8], n: usize) -> bool
     ensures { result ≡ eqb (get_or s.now n 0) 62 }
@@ -176,25 +151,25 @@ fn closes(s: &[u8], n: usize) -> bool
 }
 
 // A start tag that is a name of m bytes alone.
-fn bare(m: usize, after: usize) -> Tag
-    ensures { result ≡ pick (ltb name_limit m) (Refused 8) (Start after) }
+fn bare(m: usize, after: usize) -> Result<Tag, Reason>
+    ensures { result ≡ pick (ltb name_limit m) (Err PastLimit) (Ok (Start after)) }
 {
     if Reader::NAME < m {
-        return Tag::Refused(8);
+        return Err(Reason::PastLimit);
     }
-    Tag::Start(after)
+    Ok(Tag::Start(after))
 }
 
 // The start tag or empty-element tag that begins at `at`. Most have no attributes and end straight behind the name: that is asked first.
-pub fn tag_at(s: &[u8], at: usize) -> Tag
+pub fn tag_at(s: &[u8], at: usize) -> Result<Tag, Reason>
     ensures { result ≡ tag_at s.now at }
 {
     if text_scan::byte(s, at) != 60 {
-        return Tag::Refused(7);
+        return Err(Reason::Malformed);
     }
     let n = xml_names::element_end(s, at + 1);
     if n <= at + 1 {
-        return Tag::Refused(7);
+        return Err(Reason::Malformed);
     }
     if closes(s, n) {
         let after = n + 1;
@@ -204,17 +179,17 @@ pub fn tag_at(s: &[u8], at: usize) -> Tag
     let body = read(s, n, &mut starts);
     let count = body.count;
     let ending = body.ending;
-    if is_refused(ending) {
-        return Tag::Refused(7);
+    if ending.is_err() {
+        return Err(Reason::Malformed);
     }
     if repeats_any(s, n, &starts, count) {
-        return Tag::Refused(7);
+        return Err(Reason::Malformed);
     }
     if Reader::ATTRIBUTES < count {
-        return Tag::Refused(8);
+        return Err(Reason::PastLimit);
     }
     if passes(body.over, n - (at + 1), 0) {
-        return Tag::Refused(8);
+        return Err(Reason::PastLimit);
     }
     ending
 }
@@ -223,51 +198,32 @@ pub fn tag_at(s: &[u8], at: usize) -> Tag
 fn is_crowded(s: &[u8], at: usize) -> bool
     ensures { result ≡ ltb attributes_limit (length (items (attributes s.now at))) }
 {
-    let mut i = at;
-    let mut count = 0;
-    while i < s.len() {
-        let TagPart::Read {
-            at: _,
-            name_end: _,
-            value: _,
-            value_end: e,
-        } = xml_attributes::part_at(s, i)
-        else {
-            return false;
-        };
-        if count == Reader::ATTRIBUTES {
-            return true;
-        }
-        count += 1;
-        i = e + 1;
-    }
-    false
+    Attributes { s, at }.nth(Reader::ATTRIBUTES).is_some()
 }
 
-fn without_fault(t: Tag) -> Tag
+fn without_fault(t: Result<Tag, Reason>) -> Result<Tag, Reason>
     ensures { result ≡ faultless t }
 {
-    match t {
-        Tag::Start(after) => Tag::Start(after),
-        Tag::Empty(after) => Tag::Empty(after),
-        Tag::Refused(_) => Tag::Refused(7),
+    if t.is_err() {
+        return Err(Reason::Malformed);
     }
+    t
 }
 
 // The start tag or empty-element tag that begins at `at`, where it has no fault. Too many attributes are a fault whatever stands behind them, so that
 // the time is that of reading the tag, for any bytes.
-pub fn opening_at(s: &[u8], at: usize) -> Tag
+pub fn opening_at(s: &[u8], at: usize) -> Result<Tag, Reason>
     ensures { result ≡ opening_at s.now at }
 {
     if text_scan::byte(s, at) != 60 {
-        return Tag::Refused(7);
+        return Err(Reason::Malformed);
     }
     let n = xml_names::element_end(s, at + 1);
     if n <= at + 1 {
-        return Tag::Refused(7);
+        return Err(Reason::Malformed);
     }
     if is_crowded(s, n) {
-        return Tag::Refused(7);
+        return Err(Reason::Malformed);
     }
     without_fault(tag_at(s, at))
 }

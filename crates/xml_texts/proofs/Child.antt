@@ -1,5 +1,7 @@
 -- The tag of a child element, by its first two bytes: whatever follows, it leaves no text.
 -- Assumes nothing.
+use Rattle.std.specs.Prelude.{Result, Ok, Err}
+use Rattle.refusals.specs.declared.Reason.{Reason}
 use mathlib.Core.Path.{◌≡◌, refl, sym, ◌∙◌}
 use mathlib.Core.Bool.{Bool, true, false}
 use mathlib.Core.List.{List}
@@ -13,7 +15,7 @@ use Rattle.text_scan.specs.Bytes.{text}
 use Rattle.text_scan.specs.Lists.{stands}
 use Rattle.text_scan.proofs.Tests.{never}
 use Rattle.xml_attributes.specs.declared.Tag.{Tag}
-use Rattle.xml_attributes.specs.declared.Tag.TheVariants.{Start, Empty, Refused}
+use Rattle.xml_attributes.specs.declared.Tag.TheVariants.{Start, Empty}
 use Rattle.xml_pieces.specs.declared.DocumentPart.TheVariants.{Inside}
 use Rattle.xml_pieces.specs.declared.Scanned.{Scanned}
 use Rattle.xml_pieces.specs.Pieces.{text_piece_at, bang_at, question_at, end_at, tagged, start_at, markup_at, piece_at}
@@ -43,12 +45,12 @@ module _ (s : List ℕ) (i b : ℕ) (eb : b ≡ get_or s i 0) where
       child_by_slash g w ew = rw (← eb, eq-eqb b (code "<") y, ← et, f, ← eu, g, ← ew)
 
 -- ---- it leaves no text
-tag_other : (t : Tag) → Other ≡ content_of (tagged t)
-tag_other (Start j) = refl
-tag_other (Empty j) = refl
-tag_other (Refused n) = refl
+tag_other : (t : Result Tag Reason) → Other ≡ content_of (tagged t)
+tag_other (Ok (Start j)) = refl
+tag_other (Ok (Empty j)) = refl
+tag_other (Err n) = refl
 
-any_other : (a b c d : Bool) (bang question end text : Scanned) (t : Tag) → a and not b and not c and not d ≡ true → Other ≡ content_of (pick a (pick b bang (pick c question (pick d end (tagged t)))) text)
+any_other : (a b c d : Bool) (bang question end text : Scanned) (t : Result Tag Reason) → a and not b and not c and not d ≡ true → Other ≡ content_of (pick a (pick b bang (pick c question (pick d end (tagged t)))) text)
 any_other true true c d bang question end text t e = never (sym e)
 any_other true false true d bang question end text t e = never (sym e)
 any_other true false false true bang question end text t e = never (sym e)

@@ -1,5 +1,8 @@
 -- The content of an element, by what the loops over its pieces know; and where it stands and how much it says, for callers.
 -- Assumes nothing.
+use Rattle.std.specs.Prelude.{Option, None, Some, ℕ, Result, Ok, Err}
+use Rattle.refusals.specs.declared.Reason.TheVariants.{Malformed}
+use Rattle.refusals.specs.declared.Reason.{Reason}
 use mathlib.Core.Path.{◌≡◌, refl, sym, ◌∙◌, ap, subst}
 use mathlib.Core.Bool.{Bool, true, false}
 use mathlib.Core.List.{List, [], ◌∷◌, ◌++◌, append-nil}
@@ -13,8 +16,6 @@ use lib.Seq.{sets, length-sets, sets-eq, get_or-take, get_or-drop}
 use mir.Val.{Fits}
 use mir.Syntax.{w64}
 use Rattle.text_scan.specs.Lists.{every}
-use Rattle.text_scan.specs.declared.Found.{Found}
-use Rattle.text_scan.specs.declared.Found.TheVariants.{At as EndTag, Nothing as NoEnd}
 use Rattle.text_scan.proofs.Tests.{never, pick_case}
 use Rattle.text_scan.proofs.Within.{inside}
 use Rattle.text_scan.proofs.Lists.{every_at}
@@ -24,10 +25,11 @@ use Rattle.xml_references.specs.Decoded.{replaced, part, decoded}
 use Rattle.xml_references.proofs.Bounds as runs
 use Rattle.xml_references.proofs.Replaced.{decoded_most, plain_same}
 use Rattle.xml_references.proofs.Writes.{sets_append}
+use Rattle.xml_attributes.specs.declared.Attribute.{Attribute}
 use Rattle.xml_attributes.specs.declared.TagPart.{TagPart}
 use Rattle.xml_attributes.specs.declared.TagPart.TheVariants.{Read, Ended as Ends}
 use Rattle.xml_attributes.specs.declared.Tag.{Tag}
-use Rattle.xml_attributes.specs.declared.Tag.TheVariants.{Start as Opens, Empty as Stands, Refused as Malformed}
+use Rattle.xml_attributes.specs.declared.Tag.TheVariants.{Start as Opens, Empty as Stands}
 use Rattle.xml_attributes.specs.Chains.{holds, item, last, items, ending}
 use Rattle.xml_attributes.specs.Parts.{part_at, attributes}
 use Rattle.xml_attributes.proofs.Parts.{attributes_go, attributes_stop, attributes_out}
@@ -42,14 +44,14 @@ use Rattle.xml_pieces.proofs.Within as pieces
 use Rattle.xml_texts.specs.declared.Content.{Content}
 use Rattle.xml_texts.specs.declared.Content.TheVariants.{Said, Dropped, Ended, Other}
 use Rattle.xml_values.specs.declared.Place.{Place}
-use Rattle.xml_values.specs.declared.Place.TheVariants.{At, Nothing}
 use Rattle.xml_values.specs.Attributes.{name_after, tag_from}
 use Rattle.xml_texts.specs.Texts.{content_of, content_at, content_step, step_at, content_from, content_to, content_behind, text_place, saying, said_from, text_of}
 use Rattle.xml_texts.specs.Texts as texts
 use Rattle.xml_values.specs.declared.View.{View}
 use Rattle.xml_values.specs.declared.View.TheVariants.{Scratch}
-use Rattle.xml_values.specs.Views.{is_shown, said_in, plain_of, seen, InRange, Shows}
+use Rattle.xml_values.specs.Views.{is_shown, said_in, plain_of, StandsIn, seen, InRange, Shows}
 use Rattle.xml_values.proofs.Views.{shown_plain, Says, AsItStands, plain_stands, shows_front, in_range, seen_is}
+use Rattle.xml_values.specs.Places.{from_to}
 
 -- ---- the end of a tag: the row from the tag's name on ends as the row from i on
 abbrev pub TagEnds : List ℕ → ℕ → ℕ → Type 0
@@ -59,18 +61,18 @@ pub tag_ends_start : (s : List ℕ) (first i : ℕ) → i ≡ name_after s first
 tag_ends_start s first i e = rw e
 
 module _ (s : List ℕ) (first i : ℕ) (l : TagEnds s first i) where
-  pub tag_out : length s ≤ i → Malformed 7 ≡ ending (tag_from s first)
+  pub tag_out : length s ≤ i → Err Malformed ≡ ending (tag_from s first)
   unfolding ending
   tag_out h = sym (l ∙ rw (attributes_out s i h))
 
   module _ (h : i < length s) (x : TagPart) (ex : x ≡ part_at s i) where
-    pub tag_ended : (t : Tag) → x ≡ Ends t → t ≡ ending (tag_from s first)
+    pub tag_ended : (t : Result Tag Reason) → x ≡ Ends t → t ≡ ending (tag_from s first)
     unfolding ending
     tag_ended t z = sym (l ∙ rw (attributes_stop s i x ex t z h))
 
-    pub tag_next : (b n v e : ℕ) → x ≡ Read b n v e → TagEnds s first (e + 1)
+    pub tag_next : (a : Attribute) → x ≡ Read a → TagEnds s first (a.value_end + 1)
     unfolding ending
-    tag_next b n v e z = l ∙ rw (attributes_go s i x ex b n v e z h)
+    tag_next a z = l ∙ rw (attributes_go s i x ex a z h)
 
 -- ---- a piece of a content
 module _ (x : Scanned) (k : Kind) (j : ℕ) (z : x ≡ Piece k j) where
@@ -110,9 +112,9 @@ content_within s i h = of_within i (length s) (piece_at s i Inside) (pieces.piec
 
 -- ---- the row of pieces
 module _ (s : List ℕ) (i : ℕ) where
-  pub content_out : length s ≤ i → content_from s i ≡ last NoEnd
+  pub content_out : length s ≤ i → content_from s i ≡ last None
   unfolding content_from
-  content_out h = chain_out (step_at s) NoEnd (length s) i h
+  content_out h = chain_out (step_at s) None (length s) i h
 
   module _ (h : i < length s) (x : Content) (ex : x ≡ content_at s i) where
     here : step_at s i ≡ content_step i x
@@ -122,19 +124,19 @@ module _ (s : List ℕ) (i : ℕ) where
     bounds : Within i (length s) x
     bounds = subst (Within i (length s)) (sym ex) (content_within s i h)
 
-    pub content_ended : x ≡ Ended → content_from s i ≡ last (EndTag i)
+    pub content_ended : x ≡ Ended → content_from s i ≡ last (Some i)
     unfolding content_from
-    content_ended z = chain_stops (step_at s) NoEnd (length s) i (EndTag i) h (here ∙ ap (content_step i) z)
+    content_ended z = chain_stops (step_at s) None (length s) i (Some i) h (here ∙ ap (content_step i) z)
 
-    pub content_other : x ≡ Other → content_from s i ≡ last NoEnd
+    pub content_other : x ≡ Other → content_from s i ≡ last None
     unfolding content_from
-    content_other z = chain_stops (step_at s) NoEnd (length s) i NoEnd h (here ∙ ap (content_step i) z)
+    content_other z = chain_stops (step_at s) None (length s) i None h (here ∙ ap (content_step i) z)
 
     behind : (j : ℕ) → i < j → j ≤ length s → step_at s i ≡ holds i (j - (i + 1)) → content_from s i ≡ item i (content_from s j)
     unfolding content_from
     behind j g k q =
         let a : i + 1 + (j - (i + 1)) ≡ j = omega arith in
-        rw a at (chain_goes (step_at s) NoEnd (length s) i i (j - (i + 1)) (omega arith) q)
+        rw a at (chain_goes (step_at s) None (length s) i i (j - (i + 1)) (omega arith) q)
 
     module _ (j : ℕ) (z : x ≡ Said j) where
       pub said_ahead : i < j
@@ -175,16 +177,16 @@ abbrev pub ContentEnds : List ℕ → ℕ → ℕ → Type 0
 ContentEnds s a i = ending (content_from s a) ≡ ending (content_from s i)
 
 module _ (s : List ℕ) (a i : ℕ) (l : ContentEnds s a i) where
-  pub ends_out : length s ≤ i → NoEnd ≡ ending (content_from s a)
+  pub ends_out : length s ≤ i → None ≡ ending (content_from s a)
   unfolding ending
   ends_out h = sym (l ∙ rw (content_out s i h))
 
   module _ (h : i < length s) (x : Content) (ex : x ≡ content_at s i) where
-    pub ends_here : x ≡ Ended → EndTag i ≡ ending (content_from s a)
+    pub ends_here : x ≡ Ended → Some i ≡ ending (content_from s a)
     unfolding ending
     ends_here z = sym (l ∙ rw (content_ended s i h x ex z))
 
-    pub ends_other : x ≡ Other → NoEnd ≡ ending (content_from s a)
+    pub ends_other : x ≡ Other → None ≡ ending (content_from s a)
     unfolding ending
     ends_other z = sym (l ∙ rw (content_other s i h x ex z))
 
@@ -197,13 +199,13 @@ module _ (s : List ℕ) (a i : ℕ) (l : ContentEnds s a i) where
     ends_dropped j z = l ∙ rw (dropped_behind s i h x ex j z)
 
 -- ---- how much a content says, and where it ends: by what is left of s
-no_end : {A : Type 0} (e : ℕ) → NoEnd ≡ EndTag e → A
+no_end : {A : Type 0} (e : ℕ) → None ≡ Some e → A
 no_end e q = absurd (let z : ◌≡◌ {A = ℕ} 0 1 = cc in omega arith)
 
-same_end : (i e : ℕ) → EndTag i ≡ EndTag e → i ≡ e
+same_end : (i e : ℕ) → Some i ≡ Some e → i ≡ e
 same_end i e q = cc
 
-said_nothing : (s : List ℕ) (i : ℕ) (r : Found) → content_from s i ≡ last r → said_from s i ≡ []
+said_nothing : (s : List ℕ) (i : ℕ) (r : Option ℕ) → content_from s i ≡ last r → said_from s i ≡ []
 unfolding said_from items saying
 said_nothing s i r q = rw q
 
@@ -215,13 +217,13 @@ module _ (s : List ℕ) (e : ℕ) where
   Bounded : ℕ → Type 0
   Bounded i = (i + length (said_from s i) ≤ e) × (e < length s)
 
-  bounded : (n i : ℕ) → length s - i < n → ending (content_from s i) ≡ EndTag e → Bounded i
+  bounded : (n i : ℕ) → length s - i < n → ending (content_from s i) ≡ Some e → Bounded i
   unfolding ending Bounded
   bounded zero i k q = absurd (omega arith)
   bounded (suc n) i k q =
       inside (length s) i (λ h. go h (content_at s i) refl (λ j g f. bounded n j (omega arith) f)) (λ h. no_end e (sym (ap ending (content_out s i h)) ∙ q))
     where
-      go : i < length s → (x : Content) → x ≡ content_at s i → ((j : ℕ) → (i < j) × (j ≤ length s) → ending (content_from s j) ≡ EndTag e → Bounded j) → Bounded i
+      go : i < length s → (x : Content) → x ≡ content_at s i → ((j : ℕ) → (i < j) × (j ≤ length s) → ending (content_from s j) ≡ Some e → Bounded j) → Bounded i
       go h (Said j) ex f =
           let w : Bounded j = f j (said_ahead s i h (Said j) ex j refl, said_inside s i h (Said j) ex j refl) (sym (ap ending (said_behind s i h (Said j) ex j refl)) ∙ q) in
           (omega (arith, ap length (said_next s i h (Said j) ex j refl), length-append (decoded s i j) (said_from s j), decoded_most s i j, said_ahead s i h (Said j) ex j refl), w.1)
@@ -230,10 +232,10 @@ module _ (s : List ℕ) (e : ℕ) where
           (omega (arith, ap length (dropped_next s i h (Dropped j) ex j refl), dropped_ahead s i h (Dropped j) ex j refl), w.1)
       go h Ended ex f =
           let z : i ≡ e = same_end i e (sym (ap ending (content_ended s i h Ended ex refl)) ∙ q) in
-          (omega (arith, ap length (said_nothing s i (EndTag i) (content_ended s i h Ended ex refl))), omega arith)
+          (omega (arith, ap length (said_nothing s i (Some i) (content_ended s i h Ended ex refl))), omega arith)
       go h Other ex f = no_end e (sym (ap ending (content_other s i h Other ex refl)) ∙ q)
 
-  module _ (a : ℕ) (q : ending (content_from s a) ≡ EndTag e) where
+  module _ (a : ℕ) (q : ending (content_from s a) ≡ Some e) where
     pub said_most : a + length (said_from s a) ≤ e
     unfolding Bounded
     said_most = (bounded (suc (length s - a)) a (omega arith) q).0
@@ -246,68 +248,72 @@ module _ (s : List ℕ) (e : ℕ) where
     end_ahead = omega (arith, said_most)
 
 -- ---- the raw content, by the tests of the code
-module _ (s : List ℕ) (a : ℕ) (x : Found) (ex : x ≡ ending (content_from s a)) where
-  pub no_content : x ≡ NoEnd → Nothing ≡ content_to a (ending (content_from s a))
+module _ (s : List ℕ) (a : ℕ) (x : Option ℕ) (ex : x ≡ ending (content_from s a)) where
+  pub no_content : x ≡ None → None ≡ content_to a (ending (content_from s a))
   no_content z = rw (← ex, z)
 
-  module _ (e : ℕ) (z : x ≡ EndTag e) where
+  module _ (e : ℕ) (z : x ≡ Some e) where
     pub content_ahead : a ≤ e
     content_ahead = end_ahead s e a (sym ex ∙ z)
 
-    pub content_whole : e - a ≤ value_limit → At a e ≡ content_to a (ending (content_from s a))
+    pub content_whole : e - a ≤ value_limit → from_to a e ≡ content_to a (ending (content_from s a))
     content_whole h = rw (← ex, z, le-leb (e - a) value_limit h)
 
-    pub content_long : value_limit < e - a → Nothing ≡ content_to a (ending (content_from s a))
+    pub content_long : value_limit < e - a → None ≡ content_to a (ending (content_from s a))
     content_long h = rw (← ex, z, lt-leb (e - a) value_limit h)
 
-module _ (s : List ℕ) (first : ℕ) (t : Tag) (et : t ≡ ending (tag_from s first)) where
-  pub text_behind_lem : (a : ℕ) → t ≡ Opens a → (r : Place) → r ≡ content_to a (ending (content_from s a)) → r ≡ text_place s first
+module _ (s : List ℕ) (first : ℕ) (t : Result Tag Reason) (et : t ≡ ending (tag_from s first)) where
+  pub text_behind_lem : (tag : Tag) → t ≡ Ok tag → (a : ℕ) → tag ≡ Opens a → (r : Option Place) → r ≡ content_to a (ending (content_from s a)) → r ≡ text_place s first
   unfolding text_place
-  text_behind_lem a z r e = rw (← et, z) e
+  text_behind_lem tag y a z r e = rw (← et, y, z) e
 
-  pub text_empty : (j : ℕ) → t ≡ Stands j → Nothing ≡ text_place s first
+  pub text_empty : (tag : Tag) → t ≡ Ok tag → (j : ℕ) → tag ≡ Stands j → None ≡ text_place s first
   unfolding text_place
-  text_empty j z = rw (← et, z)
+  text_empty tag y j z = rw (← et, y, z)
 
-  pub text_malformed : (n : ℕ) → t ≡ Malformed n → Nothing ≡ text_place s first
+  pub text_malformed : (n : Reason) → t ≡ Err n → None ≡ text_place s first
   unfolding text_place
   text_malformed n z = rw (← et, z)
 
 -- ---- bounds: a content that is found stands within, within the limit, and ends at its end tag
-abbrev pub Stood : List ℕ → Place → Type 0
-Stood s (At a e) = (e - a ≤ value_limit) × (ending (content_from s a) ≡ EndTag e)
-Stood s Nothing = Unit {0}
+abbrev pub Stood : List ℕ → Option Place → Type 0
+Stood s (Some p) = (p.after - p.first ≤ value_limit) × (ending (content_from s p.first) ≡ Some p.after)
+Stood s None = Unit {0}
 
 module _ (s : List ℕ) where
-  content_stood : (a : ℕ) (x : Found) → ending (content_from s a) ≡ x → Stood s (content_to a x)
-  content_stood a (EndTag e) q = pick_case (Stood s) (leb (e - a) value_limit) _ _ (λ h. (leb-true (e - a) value_limit h, q)) (λ _. tt)
-  content_stood a NoEnd q = tt
+  content_stood : (a : ℕ) (x : Option ℕ) → ending (content_from s a) ≡ x → Stood s (content_to a x)
+  content_stood a (Some e) q = pick_case (Stood s) (leb (e - a) value_limit) _ _ (λ h. (leb-true (e - a) value_limit h, q)) (λ _. tt)
+  content_stood a None q = tt
 
-  behind_stood : (t : Tag) → Stood s (content_behind s t)
-  behind_stood (Opens a) = content_stood a (ending (content_from s a)) refl
-  behind_stood (Stands j) = tt
-  behind_stood (Malformed n) = tt
+  behind_stood : (t : Result Tag Reason) → Stood s (content_behind s t)
+  behind_stood (Ok (Opens a)) = content_stood a (ending (content_from s a)) refl
+  behind_stood (Ok (Stands j)) = tt
+  behind_stood (Err n) = tt
 
   pub text_stood : (first : ℕ) → Stood s (text_place s first)
   unfolding text_place
   text_stood first = behind_stood (ending (tag_from s first))
 
 -- of a place that the code was told
-module _ (s : List ℕ) (first : ℕ) (p : Place) (ep : p ≡ text_place s first) (a e : ℕ) (z : p ≡ At a e) where
-  stood : Stood s (At a e)
+module _ (s : List ℕ) (first : ℕ) (p : Option Place) (ep : p ≡ text_place s first) (there : Place) (z : p ≡ Some there) where
+  stood : Stood s (Some there)
   stood = rw z at (rw (← ep) at (text_stood s first))
 
-  pub text_ends : ending (content_from s a) ≡ EndTag e
+  pub text_ends : ending (content_from s there.first) ≡ Some there.after
   text_ends = stood.1
 
-  pub text_ahead : a ≤ e
-  text_ahead = end_ahead s e a stood.1
+  pub text_ahead : there.first ≤ there.after
+  text_ahead = end_ahead s there.after there.first stood.1
 
-  pub text_inside : e ≤ length s
-  text_inside = omega (arith, end_inside s e a stood.1)
+  pub text_inside : there.after ≤ length s
+  text_inside = omega (arith, end_inside s there.after there.first stood.1)
 
-  pub text_room : (out : List ℕ) → value_limit ≤ length out → e - a ≤ length out
+  pub text_room : (out : List ℕ) → value_limit ≤ length out → there.after - there.first ≤ length out
   text_room out h = omega (arith, stood.0)
+
+pub text_stands : (s : List ℕ) (first : ℕ) (p : Option Place) → p ≡ text_place s first → StandsIn s p
+text_stands s first (Some p) ep = (text_ahead s first (Some p) ep p refl, text_inside s first (Some p) ep p refl)
+text_stands s first None ep = tt
 
 -- ---- the loop that stores: what is left to say at i, stored from n on, makes what the whole makes
 abbrev pub Stored : List ℕ → ℕ → ℕ → List ℕ → List ℕ → ℕ → ℕ → Type 0
@@ -315,7 +321,7 @@ Stored s a e out₀ out n i =
     (sets out n (said_from s i) ≡ sets out₀ 0 (said_from s a))
     × (n + length (said_from s i) ≡ length (said_from s a))
     × (length out ≡ length out₀)
-    × (ending (content_from s i) ≡ EndTag e)
+    × (ending (content_from s i) ≡ Some e)
     × (a + n ≤ i)
 
 module _ (s : List ℕ) (a e : ℕ) (out₀ out : List ℕ) (n i : ℕ) (l : Stored s a e out₀ out n i) where
@@ -324,7 +330,7 @@ module _ (s : List ℕ) (a e : ℕ) (out₀ out : List ℕ) (n i : ℕ) (l : Sto
 
   module _ (h : i < e) (x : Content) (ex : x ≡ content_at s i) where
     module _ (j : ℕ) (z : x ≡ Said j) where
-      ends_behind : ending (content_from s j) ≡ EndTag e
+      ends_behind : ending (content_from s j) ≡ Some e
       unfolding ending
       ends_behind = sym (ap ending (said_behind s i (here_inside h) x ex j z)) ∙ l.3
 
@@ -354,7 +360,7 @@ module _ (s : List ℕ) (a e : ℕ) (out₀ out : List ℕ) (n i : ℕ) (l : Sto
         )
 
     module _ (j : ℕ) (z : x ≡ Dropped j) where
-      ends_past : ending (content_from s j) ≡ EndTag e
+      ends_past : ending (content_from s j) ≡ Some e
       unfolding ending
       ends_past = sym (ap ending (dropped_behind s i (here_inside h) x ex j z)) ∙ l.3
 
@@ -386,19 +392,19 @@ module _ (s : List ℕ) (a e : ℕ) (out₀ out : List ℕ) (n i : ℕ) (l : Sto
 
     module _ (h : i < e) (x : Content) (ex : x ≡ content_at s i) where
       pub ended_count : x ≡ Ended → n ≡ length (said_from s a)
-      ended_count z = (stored_all (said_nothing s i (EndTag i) (content_ended s i (here_inside h) x ex z))).0
+      ended_count z = (stored_all (said_nothing s i (Some i) (content_ended s i (here_inside h) x ex z))).0
 
       pub ended_stored : x ≡ Ended → out ≡ said_from s a ++ drop n out₀
-      ended_stored z = (stored_all (said_nothing s i (EndTag i) (content_ended s i (here_inside h) x ex z))).1
+      ended_stored z = (stored_all (said_nothing s i (Some i) (content_ended s i (here_inside h) x ex z))).1
 
       pub other_count : x ≡ Other → n ≡ length (said_from s a)
-      other_count z = (stored_all (said_nothing s i NoEnd (content_other s i (here_inside h) x ex z))).0
+      other_count z = (stored_all (said_nothing s i None (content_other s i (here_inside h) x ex z))).0
 
       pub other_stored : x ≡ Other → out ≡ said_from s a ++ drop n out₀
-      other_stored z = (stored_all (said_nothing s i NoEnd (content_other s i (here_inside h) x ex z))).1
+      other_stored z = (stored_all (said_nothing s i None (content_other s i (here_inside h) x ex z))).1
 
 -- ---- a content without references and dropped parts is one run of text, which says itself
-module _ (s : List ℕ) (a e : ℕ) (q : ending (content_from s a) ≡ EndTag e) (plain : every is_shown (part s a e) ≡ true) where
+module _ (s : List ℕ) (a e : ℕ) (q : ending (content_from s a) ≡ Some e) (plain : every is_shown (part s a e) ≡ true) where
   -- no byte of it is '<'
   no_markup : (j : ℕ) → a ≤ j → j < e → get_or s j 0 ≡ code "<" → ⊥
   no_markup j h g b =
@@ -420,20 +426,20 @@ module _ (s : List ℕ) (a e : ℕ) (q : ending (content_from s a) ≡ EndTag e)
   unfolding content_at piece_at text_piece_at
   text_here h = rw (ne_eqb (get_or s a 0) 60 (no_markup a (omega arith) h))
 
-  at_run : a < e → (x : Found) → text_end s a ≡ x → said_from s a ≡ part s a e
+  at_run : a < e → (x : Option ℕ) → text_end s a ≡ x → said_from s a ≡ part s a e
   unfolding ending
-  at_run h (EndTag j) w =
+  at_run h (Some j) w =
       let le : a ≤ length s = omega (arith, end_inside s e a q) in
       let lt : a < length s = omega (arith, end_inside s e a q) in
-      let c : Said j ≡ content_at s a = sym (text_here h ∙ ap (λ (y : Found). content_of (found Text y)) w) in
-      let f : ending (content_from s j) ≡ EndTag e = sym (ap ending (said_behind s a lt (Said j) c j refl)) ∙ q in
+      let c : Said j ≡ content_at s a = sym (text_here h ∙ ap (λ (y : Option ℕ). content_of (found Text y)) w) in
+      let f : ending (content_from s j) ≡ Some e = sym (ap ending (said_behind s a lt (Said j) c j refl)) ∙ q in
       let m : j ≡ e = run_whole j (end_ahead s e j f) (runs.text_ended s a le j w) (runs.text_ahead s a le j w) in
       let d : decoded s a j ≡ part s a e = rw m (plain_same (part s a e) (shown_plain (part s a e) plain)) in
       let n : said_from s j ≡ [] = no_bytes (said_from s j) (omega (arith, said_most s e j f)) in
       said_next s a lt (Said j) c j refl ∙ rw (d, n) (append-nil (part s a e))
-  at_run h NoEnd w =
+  at_run h None w =
       let lt : a < length s = omega (arith, end_inside s e a q) in
-      let c : Other ≡ content_at s a = sym (text_here h ∙ ap (λ (y : Found). content_of (found Text y)) w) in
+      let c : Other ≡ content_at s a = sym (text_here h ∙ ap (λ (y : Option ℕ). content_of (found Text y)) w) in
       no_end e (sym (ap ending (content_other s a lt Other c refl)) ∙ q)
 
   pub said_itself : said_from s a ≡ part s a e
@@ -446,18 +452,18 @@ module _ (s : List ℕ) (a e : ℕ) (q : ending (content_from s a) ≡ EndTag e)
       go false z = at_run (omega (arith, eqb-false a e z, end_ahead s e a q)) (text_end s a) refl
 
 -- ---- the text is shown, and seen
-pub text_front : (s : List ℕ) (place : Place) (out : List ℕ) (p : Place) → p ≡ place → (a e : ℕ) → p ≡ At a e → (t : Bool) → t ≡ every is_shown (part s a e) → value_limit ≤ length out → (n : ℕ) (out' : List ℕ) → t ≡ false → (n ≡ length (said_from s a)) × (out' ≡ said_from s a ++ drop n out) → Shows s place (texts.text_at s place) out (Scratch n) out'
-text_front s place out p ep a e z t et room n out' f g =
-    let q : place ≡ At a e = sym ep ∙ z in
-    shows_front s place (texts.text_at s place) out p ep a e z t et room n out' f (rw q g)
+pub text_front : (s : List ℕ) (place : Option Place) (out : List ℕ) (p : Option Place) → p ≡ place → (there : Place) → p ≡ Some there → (t : Bool) → t ≡ every is_shown (part s there.first there.after) → value_limit ≤ length out → (n : ℕ) (out' : List ℕ) → t ≡ false → (n ≡ length (said_from s there.first)) × (out' ≡ said_from s there.first ++ drop n out) → Shows s place (texts.text_at s place) out (Scratch n) out'
+text_front s place out p ep there z t et room n out' f g =
+    let q : place ≡ Some there = sym ep ∙ z in
+    shows_front s place (texts.text_at s place) out p ep there z t et room n out' f (rw q g)
 
 pub text_says : (s : List ℕ) (first : ℕ) → Says s (text_place s first) (text_of s first)
 text_says s first = go (text_place s first) (text_stood s first)
   where
-    go : (p : Place) → Stood s p → Says s p (texts.text_at s p)
-    go (At a e) w =
-        (end_ahead s e a w.1, omega (arith, end_inside s e a w.1), w.0, λ q. said_itself s a e w.1 q, omega (arith, said_most s e a w.1))
-    go Nothing w = refl
+    go : (p : Option Place) → Stood s p → Says s p (texts.text_at s p)
+    go (Some p) w =
+        (end_ahead s p.after p.first w.1, omega (arith, end_inside s p.after p.first w.1), w.0, λ q. said_itself s p.first p.after w.1 q, omega (arith, said_most s p.after p.first w.1))
+    go None w = refl
 
 module _ (s : List ℕ) (first : ℕ) (scratch : List ℕ) (view : View) (after : List ℕ) (x : Shows s (text_place s first) (text_of s first) scratch view after) where
   pub text_in_range : InRange s after view
@@ -466,15 +472,15 @@ module _ (s : List ℕ) (first : ℕ) (scratch : List ℕ) (view : View) (after 
   pub text_seen : seen s after view ≡ said_in scratch (text_of s first)
   text_seen = seen_is s (text_of s first) scratch (text_place s first) (text_says s first) view after x
 
-module _ (s : List ℕ) (first : ℕ) (p : Place) (ep : p ≡ plain_of s (text_place s first)) (a e : ℕ) (z : p ≡ At a e) where
-  stands : AsItStands s (text_of s first) (At a e)
+module _ (s : List ℕ) (first : ℕ) (p : Option Place) (ep : p ≡ plain_of s (text_place s first)) (there : Place) (z : p ≡ Some there) where
+  stands : AsItStands s (text_of s first) (Some there)
   stands = rw (sym ep ∙ z) at (plain_stands s (text_of s first) (text_place s first) (text_says s first))
 
-  pub plain_text_ahead : a ≤ e
+  pub plain_text_ahead : there.first ≤ there.after
   plain_text_ahead = stands.0
 
-  pub plain_text_inside : e ≤ length s
+  pub plain_text_inside : there.after ≤ length s
   plain_text_inside = stands.1
 
-  pub plain_text_says : part s a e ≡ text_of s first
+  pub plain_text_says : part s there.first there.after ≡ text_of s first
   plain_text_says = stands.2

@@ -1,15 +1,14 @@
 // The text of an element of a document that was read: nothing is judged again.
 #![tactic(auto)]
 
-ghost use Rattle.std.specs.Prelude.{◌≡◌, ◌++◌, ◌-◌, ◌≤◌, length, drop};
-ghost use Rattle.text_scan.specs.declared.Found.{Found};
+ghost use Rattle.std.specs.Prelude.{◌≡◌, ◌++◌, ◌-◌, ◌≤◌, length, drop, Some};
 ghost use Rattle.xml_attributes.specs.Chains.{ending};
 ghost use Rattle.xml_values.specs.Attributes.{tag_from};
 ghost use Rattle.xml_texts.specs.Texts.{content_of, content_at, content_from, content_to, text_place, said_from, text_of};
 ghost use Rattle.xml_texts.specs.Child.{is_child};
 ghost use Rattle.xml_values.specs.Views.{view_in, said_in, plain_of, Shows, as_read, ShowsAt};
 
-use text_scan::Found;
+use refusals::Reason;
 use xml_attributes::{Tag, TagPart};
 use xml_pieces::{Kind, Scanned};
 use xml_reader::Reader;
@@ -25,26 +24,21 @@ pub enum Content {
     Other,
 }
 
-// How the tag that begins at `first` ends.
-fn tag_end(s: &[u8], first: usize) -> Tag
+// How the tag that begins at `first` ends, which the iterator over attributes does not say.
+fn tag_end(s: &[u8], first: usize) -> Result<Tag, Reason>
     ensures { result ≡ ending (tag_from s.now first) }
 {
     let mut i = xml_values::name_after(s, first);
     while i < s.len() {
         match xml_attributes::part_at(s, i) {
-            TagPart::Read {
-                at: _,
-                name_end: _,
-                value: _,
-                value_end: e,
-            } => {
-                i = e + 1;
+            TagPart::Read(a) => {
+                i = a.value_end + 1;
                 continue;
             }
             TagPart::Ended(tag) => return tag,
         }
     }
-    Tag::Refused(7)
+    Err(Reason::Malformed)
 }
 
 fn content_of(got: Scanned) -> Content
@@ -91,7 +85,7 @@ fn content_at(s: &[u8], i: usize) -> Content
 }
 
 // The place of the end tag behind the content that begins at a, which has no child elements.
-fn content_end(s: &[u8], a: usize) -> Found
+fn content_end(s: &[u8], a: usize) -> Option<usize>
     ensures { result ≡ ending (content_from s.now a) }
 {
     let mut i = a;
@@ -105,53 +99,49 @@ fn content_end(s: &[u8], a: usize) -> Found
                 i = after;
                 continue;
             }
-            Content::Ended => return Found::At(i),
-            Content::Other => return Found::Nothing,
+            Content::Ended => return Some(i),
+            Content::Other => return None,
         }
     }
-    Found::Nothing
+    None
 }
 
 // The content that begins at a and has no child elements, where it is within the limit.
-fn content_place(s: &[u8], a: usize) -> Place
+fn content_place(s: &[u8], a: usize) -> Option<Place>
     ensures { result ≡ content_to a (ending (content_from s.now a)) }
 {
-    let Found::At(e) = content_end(s, a) else {
-        return Place::Nothing;
+    let Some(e) = content_end(s, a) else {
+        return None;
     };
     if e - a <= Reader::VALUE {
-        return Place::At(a, e);
+        return Some(Place { first: a, after: e });
     }
-    Place::Nothing
+    None
 }
 
 // The raw content of the element that begins at `first` and has no child elements.
-pub fn text_place(s: &[u8], first: usize) -> Place
+pub fn text_place(s: &[u8], first: usize) -> Option<Place>
     ensures { result ≡ text_place s.now first }
 {
-    match tag_end(s, first) {
+    let Ok(tag) = tag_end(s, first) else {
+        return None;
+    };
+    match tag {
         Tag::Start(a) => content_place(s, a),
-        Tag::Empty(_) => Place::Nothing,
-        Tag::Refused(_) => Place::Nothing,
+        Tag::Empty(_) => None,
     }
 }
 
 // Where the text of the element that begins at `first` stands, if it says the bytes there.
-pub fn plain_text(s: &[u8], first: usize) -> Place
+pub fn plain_text(s: &[u8], first: usize) -> Option<Place>
     ensures { result ≡ plain_of s.now (text_place s.now first) }
 {
-    let Place::At(a, e) = text_place(s, first) else {
-        return Place::At(0, 0);
-    };
-    if xml_values::all_shown(&s[a..e]) {
-        return Place::At(a, e);
-    }
-    Place::Nothing
+    xml_values::plain(s, text_place(s, first))
 }
 
 // Stores what the content from a to e says at the front of `out`, and answers how many bytes that is.
 fn say(s: &[u8], a: usize, e: usize, out: &mut [u8]) -> usize
-    requires { (ending (content_from s.now a) ≡ Found.At e) × (e - a ≤ length out.old) }
+    requires { (ending (content_from s.now a) ≡ Some e) × (e - a ≤ length out.old) }
     ensures { (result ≡ length (said_from s.now a)) × (out.new ≡ said_from s.now a ++ drop result out.old) }
 {
     let mut n = 0;
@@ -181,13 +171,13 @@ pub fn text_value(s: &[u8], first: usize, out: &mut [u8]) -> View
     if out.len() < Reader::VALUE {
         return View::Document(0, 0);
     }
-    let Place::At(a, e) = text_place(s, first) else {
+    let Some(place) = text_place(s, first) else {
         return View::Document(0, 0);
     };
-    if xml_values::all_shown(&s[a..e]) {
-        return View::Document(a, e);
+    if xml_values::all_shown(&s[place.first..place.after]) {
+        return View::Document(place.first, place.after);
     }
-    View::Scratch(say(s, a, e, out))
+    View::Scratch(say(s, place.first, place.after, out))
 }
 
 // The text of the element that begins at `first`: that part of s, or the front of `out`.

@@ -1,19 +1,19 @@
 -- The value reader, by the tests of the code; and that the bytes which are seen are those that the value says.
 -- Assumes nothing.
+use Rattle.std.specs.Prelude.{is_err, Option, None, Some, ℕ, Result, Ok, Err}
+use Rattle.refusals.specs.declared.Reason.{Reason}
 use mathlib.Core.Path.{◌≡◌, refl, sym, ◌∙◌, ap}
 use mathlib.Core.Bool.{Bool, true, false}
 use mathlib.Core.List.{List, [], ◌∷◌}
 use Prim.Native.Nat.{ℕ, zero, suc, ◌+◌, ◌-◌, ◌<◌, ◌≤◌, ◌^◌}
 use native.Mathlib.Omega.{arith}
-use borrow.Author.Tests.{eq-eqb, ne_eqb, le-leb, lt-leb, leb-true}
+use borrow.Author.Tests.{eq-eqb, ne_eqb, le-leb, lt-leb, leb-true, eqb-true, eqb-false}
 use lib.Dec.{eqb, leb}
 use lib.ListN.{length, take, drop, length-drop}
 use lib.Seq.{length-take-le, take-nil, take-take, drop-drop}
 use mir.Val.{Fits}
 use mir.Syntax.{w64}
-use Rattle.text_scan.specs.Choice.{pick, ◌and◌}
-use Rattle.text_scan.specs.declared.Found.{Found}
-use Rattle.text_scan.specs.declared.Found.TheVariants.{At as EndsAt, Nothing as NoEndTag}
+use Rattle.text_scan.specs.Choice.{pick, ◌and◌, not}
 use Rattle.text_scan.proofs.Tests.{pick_case, and_left, and_right}
 use Rattle.text_chars.specs.Utf8.{first_bad}
 use Rattle.xml_reader.specs.Limits.{value_limit}
@@ -21,13 +21,12 @@ use Rattle.xml_references.specs.Decoded.{part}
 use Rattle.xml_names.specs.Names.{name_end, name_is}
 use Rattle.xml_names.proofs.Names.{name_least, name_most}
 use Rattle.xml_attributes.specs.declared.Tag.{Tag}
-use Rattle.xml_attributes.specs.declared.Tag.TheVariants.{Start, Empty, Refused}
+use Rattle.xml_attributes.specs.declared.Tag.TheVariants.{Start, Empty}
 use Rattle.xml_tags.specs.Tags.{tag_at, faultless, opening_at}
 use Rattle.xml_tags.specs.EndTags.{end_tag_end}
 use Rattle.xml_tags.proofs.Bounds.{TagWithin, tag_within}
 use Rattle.xml_pieces.proofs.Within.{end_tag_behind}
 use Rattle.xml_values.specs.declared.Place.{Place}
-use Rattle.xml_values.specs.declared.Place.TheVariants.{At, Nothing}
 use Rattle.xml_values.specs.declared.View.{View}
 use Rattle.xml_values.specs.declared.View.TheVariants.{Document, Scratch}
 use Rattle.xml_values.specs.Attributes.{attribute_place, attribute_of, value_at}
@@ -37,28 +36,34 @@ use Rattle.xml_values.proofs.Views.{view_roomy, room_says, Says, shows_nothing, 
 use Rattle.xml_texts.proofs.Texts.{text_says}
 use Rattle.xml_value_reader.specs.Shown.{is_sound, is_tag, is_sound_tag, opens, ends_with, closes, is_element, place_in, bytes_in, moved, ValueOutcome, showing, showing_nothing, is_readable, shown_of, value_of, Fills}
 use Rattle.xml_value_reader.specs.Moved.{Moves}
+use Rattle.xml_values.specs.Places.{from_to}
 
 -- ---- the first piece
 pub sound_part : (r : List ℕ) (n k : ℕ) → n ≤ length r → k ≡ first_bad (take n r) → eqb k n ≡ is_sound (take n r)
 sound_part r n k h e = rw (← e, length-take-le n r h)
 
 -- a tag with a fault opens nothing, whatever the fault
-still_within : (m : ℕ) (t : Tag) → TagWithin 0 m t → TagWithin 0 m (faultless t)
-still_within m (Start j) w = w
-still_within m (Empty j) w = w
-still_within m (Refused n) w = tt
+still_within : (m : ℕ) (t : Result Tag Reason) → TagWithin 0 m t → TagWithin 0 m (faultless t)
+still_within m (Ok (Start j)) w = w
+still_within m (Ok (Empty j)) w = w
+still_within m (Err n) w = tt
 
-still_sound : (r : List ℕ) (t : Tag) → is_sound_tag r (faultless t) ≡ is_sound_tag r t
-still_sound r (Start j) = refl
-still_sound r (Empty j) = refl
-still_sound r (Refused n) = refl
+still_sound : (r : List ℕ) (t : Result Tag Reason) → is_sound_tag r (faultless t) ≡ is_sound_tag r t
+still_sound r (Ok (Start j)) = refl
+still_sound r (Ok (Empty j)) = refl
+still_sound r (Err n) = refl
 
-still_tag : (t : Tag) → is_tag (faultless t) ≡ is_tag t
-still_tag (Start j) = refl
-still_tag (Empty j) = refl
-still_tag (Refused n) = refl
+tag_or_refused : (t : Result Tag Reason) → is_tag t ≡ not (is_err t)
+tag_or_refused (Ok (Start j)) = refl
+tag_or_refused (Ok (Empty j)) = refl
+tag_or_refused (Err k) = refl
 
-module _ (r : List ℕ) (x : Tag) (ex : x ≡ opening_at r 0) where
+still_tag : (t : Result Tag Reason) → is_tag (faultless t) ≡ is_tag t
+still_tag (Ok (Start j)) = refl
+still_tag (Ok (Empty j)) = refl
+still_tag (Err n) = refl
+
+module _ (r : List ℕ) (x : Result Tag Reason) (ex : x ≡ opening_at r 0) where
   told : TagWithin 0 (length r) x
   told = rw ex (still_within (length r) (tag_at r 0) (tag_within r 0))
 
@@ -66,27 +71,27 @@ module _ (r : List ℕ) (x : Tag) (ex : x ≡ opening_at r 0) where
   unfolding opens
   by_opening = ap (is_sound_tag r) ex ∙ still_sound r (tag_at r 0)
 
-  pub start_inside : (j : ℕ) → x ≡ Start j → j ≤ length r
-  start_inside j z = (rw z at told).1
+  pub start_inside : (tag : Tag) → x ≡ Ok tag → (j : ℕ) → tag ≡ Start j → j ≤ length r
+  start_inside tag y j z = (rw (y, z) at told).1
 
-  pub empty_inside : (j : ℕ) → x ≡ Empty j → j ≤ length r
-  empty_inside j z = (rw z at told).1
+  pub empty_inside : (tag : Tag) → x ≡ Ok tag → (j : ℕ) → tag ≡ Empty j → j ≤ length r
+  empty_inside tag y j z = (rw (y, z) at told).1
 
-  pub opens_start : (j : ℕ) → x ≡ Start j → (b : Bool) → b ≡ is_sound (take j r) → b ≡ opens r
-  opens_start j z b e = e ∙ sym (ap (is_sound_tag r) z) ∙ by_opening
+  pub opens_start : (tag : Tag) → x ≡ Ok tag → (j : ℕ) → tag ≡ Start j → (b : Bool) → b ≡ is_sound (take j r) → b ≡ opens r
+  opens_start tag y j z b e = e ∙ sym (ap (is_sound_tag r) (y ∙ ap Ok z)) ∙ by_opening
 
-  pub opens_empty : (j : ℕ) → x ≡ Empty j → (b : Bool) → b ≡ is_sound (take j r) → b ≡ opens r
-  opens_empty j z b e = e ∙ sym (ap (is_sound_tag r) z) ∙ by_opening
+  pub opens_empty : (tag : Tag) → x ≡ Ok tag → (j : ℕ) → tag ≡ Empty j → (b : Bool) → b ≡ is_sound (take j r) → b ≡ opens r
+  opens_empty tag y j z b e = e ∙ sym (ap (is_sound_tag r) (y ∙ ap Ok z)) ∙ by_opening
 
-  pub opens_nothing : (n : ℕ) → x ≡ Refused n → false ≡ opens r
+  pub opens_nothing : (n : Reason) → x ≡ Err n → false ≡ opens r
   opens_nothing n z = sym (ap (is_sound_tag r) z) ∙ by_opening
 
 -- ---- the last piece
-module _ (r : List ℕ) (e : ℕ) (x : Found) (ex : x ≡ end_tag_end r e) where
-  pub no_end_tag : x ≡ NoEndTag → false ≡ ends_with r e (end_tag_end r e)
+module _ (r : List ℕ) (e : ℕ) (x : Option ℕ) (ex : x ≡ end_tag_end r e) where
+  pub no_end_tag : x ≡ None → false ≡ ends_with r e (end_tag_end r e)
   no_end_tag z = rw (← ex, z)
 
-  module _ (j : ℕ) (z : x ≡ EndsAt j) where
+  module _ (j : ℕ) (z : x ≡ Some j) where
     pub ends_before : (j ≡ length r → ⊥) → false ≡ ends_with r e (end_tag_end r e)
     ends_before h = rw (← ex, z, ne_eqb j (length r) h)
 
@@ -112,25 +117,25 @@ module _ (r : List ℕ) (k : ℕ) (ek : k ≡ first_bad r) where
   unfolding is_element
   not_sound h = rw (← ek, ne_eqb k (length r) h)
 
-  module _ (h : k ≡ length r) (x : Tag) (ex : x ≡ opening_at r 0) (t : Bool) (et : t ≡ is_tag x) where
-    tag_told : is_tag (tag_at r 0) ≡ t
-    tag_told = sym (et ∙ ap is_tag ex ∙ still_tag (tag_at r 0))
+  module _ (h : k ≡ length r) (x : Result Tag Reason) (ex : x ≡ opening_at r 0) (t : Bool) (et : t ≡ is_err x) where
+    tag_told : is_tag (tag_at r 0) ≡ not t
+    tag_told = sym (rw et (sym (tag_or_refused x)) ∙ ap is_tag ex ∙ still_tag (tag_at r 0))
 
-    by_tag : is_element r ≡ t and closes r (text_place r 0)
+    by_tag : is_element r ≡ not t and closes r (text_place r 0)
     unfolding is_element
     by_tag = rw (← ek, eq-eqb k (length r) h, tag_told)
 
-    pub not_opened : t ≡ false → false ≡ is_element r
+    pub not_opened : t ≡ true → false ≡ is_element r
     not_opened f = sym (by_tag ∙ rw f)
 
-    module _ (f : t ≡ true) (p : Place) (ep : p ≡ text_place r 0) where
-      pub no_content : p ≡ Nothing → false ≡ is_element r
+    module _ (f : t ≡ false) (p : Option Place) (ep : p ≡ text_place r 0) where
+      pub no_content : p ≡ None → false ≡ is_element r
       unfolding closes
       no_content z = sym (by_tag ∙ rw (f, ← ep, z))
 
-      pub one_element : (a e : ℕ) → p ≡ At a e → (b : Bool) → b ≡ ends_with r e (end_tag_end r e) → b ≡ is_element r
+      pub one_element : (there : Place) → p ≡ Some there → (b : Bool) → b ≡ ends_with r there.after (end_tag_end r there.after) → b ≡ is_element r
       unfolding closes
-      one_element a e z b q = q ∙ sym (by_tag ∙ rw (f, ← ep, z))
+      one_element there z b q = q ∙ sym (by_tag ∙ rw (f, ← ep, z))
 
 -- ---- in the range
 no_bytes : (name : List ℕ) → length name ≡ 0 → name ≡ []
@@ -138,7 +143,7 @@ no_bytes [] h = refl
 no_bytes (c ∷ name) h = absurd (omega arith)
 
 -- a name that is not empty asks for an attribute
-named : (r name : List ℕ) → (length name ≡ 0 → ⊥) → (t : Bool) → t ≡ opens r → place_in r name ≡ pick t (attribute_place r 0 name) Nothing
+named : (r name : List ℕ) → (length name ≡ 0 → ⊥) → (t : Bool) → t ≡ opens r → place_in r name ≡ pick t (attribute_place r 0 name) None
 unfolding place_in
 named r [] h t et = absurd (h refl)
 named r (c ∷ name) h t et = rw et
@@ -149,8 +154,11 @@ named_bytes r [] h = absurd (h refl)
 named_bytes r (c ∷ name) h = refl
 
 module _ (r name scratch : List ℕ) where
-  module _ (h : length name ≡ 0) (t : Bool) (et : t ≡ is_element r) where
-    unnamed : place_in r name ≡ pick t (text_place r 0) Nothing
+  module _ (u : Bool) (eu : u ≡ eqb (length name) 0) (y : u ≡ true) (t : Bool) (et : t ≡ is_element r) where
+    h : length name ≡ 0
+    h = eqb-true (length name) 0 (sym eu ∙ y)
+
+    unnamed : place_in r name ≡ pick t (text_place r 0) None
     unfolding place_in
     unnamed = rw (no_bytes name h, et)
 
@@ -162,22 +170,25 @@ module _ (r name scratch : List ℕ) where
     text_shown v after f x = rw (unnamed_bytes, unnamed, f) x
 
     pub no_text : t ≡ false → Shows r (place_in r name) (bytes_in r name) scratch (Document 0 0) scratch
-    no_text f = shows_nothing r (place_in r name) (bytes_in r name) scratch Nothing (sym (unnamed ∙ rw f)) refl
+    no_text f = shows_nothing r (place_in r name) (bytes_in r name) scratch None (sym (unnamed ∙ rw f)) refl
 
-  module _ (h : length name ≡ 0 → ⊥) (t : Bool) (et : t ≡ opens r) where
+  module _ (u : Bool) (eu : u ≡ eqb (length name) 0) (y : u ≡ false) (t : Bool) (et : t ≡ opens r) where
+    full : length name ≡ 0 → ⊥
+    full = eqb-false (length name) 0 (sym eu ∙ y)
+
     pub attribute_shown : (v : View) (after : List ℕ) → t ≡ true → Shows r (attribute_place r 0 name) (attribute_of r 0 name) scratch v after → Shows r (place_in r name) (bytes_in r name) scratch v after
-    attribute_shown v after f x = rw (named_bytes r name h, named r name h t et, f) x
+    attribute_shown v after f x = rw (named_bytes r name full, named r name full t et, f) x
 
     pub no_attribute : t ≡ false → Shows r (place_in r name) (bytes_in r name) scratch (Document 0 0) scratch
-    no_attribute f = shows_nothing r (place_in r name) (bytes_in r name) scratch Nothing (sym (named r name h t et ∙ rw f)) refl
+    no_attribute f = shows_nothing r (place_in r name) (bytes_in r name) scratch None (sym (named r name full t et ∙ rw f)) refl
 
 -- ---- what the value in a range says
 in_says : (r name : List ℕ) → Says r (place_in r name) (bytes_in r name)
 unfolding place_in bytes_in
 in_says r [] =
-    pick_case (λ p. Says r p (text_at r p)) (is_element r) (text_place r 0) Nothing (λ _. text_says r 0) (λ _. refl)
+    pick_case (λ p. Says r p (text_at r p)) (is_element r) (text_place r 0) None (λ _. text_says r 0) (λ _. refl)
 in_says r (c ∷ name) =
-    pick_case (λ p. Says r p (value_at r p)) (opens r) (attribute_place r 0 (c ∷ name)) Nothing (λ _. attribute_says r 0 (c ∷ name)) (λ _. refl)
+    pick_case (λ p. Says r p (value_at r p)) (opens r) (attribute_place r 0 (c ∷ name)) None (λ _. attribute_says r 0 (c ∷ name)) (λ _. refl)
 
 -- ---- a part of a part of the document
 pub drop_take : (a n : ℕ) (xs : List ℕ) → drop a (take n xs) ≡ take (n - a) (drop a xs)

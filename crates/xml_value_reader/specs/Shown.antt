@@ -2,20 +2,18 @@
 -- text. An absent value, scratch under 4,096 bytes, a range outside the document, not opening an element or, for a text, not one element, or a fault
 -- of 5 to 8 in what is read shows an empty part of the document with scratch unchanged.
 -- Assumes nothing.
-use Rattle.std.specs.Prelude.{ℕ, ◌+◌, ◌≡◌, Bool, true, false, List, [], ◌∷◌, eqb, leb, length, take}
+use Rattle.std.specs.Prelude.{ℕ, ◌+◌, ◌≡◌, Bool, true, false, List, [], ◌∷◌, eqb, leb, length, take, Option, None, Some, Result, Ok, Err}
+use Rattle.refusals.specs.declared.Reason.{Reason}
 use Rattle.text_scan.specs.Choice.{pick, ◌and◌}
-use Rattle.text_scan.specs.declared.Found.{Found}
-use Rattle.text_scan.specs.declared.Found.TheVariants.{At as EndsAt, Nothing as NoEndTag}
 use Rattle.text_chars.specs.Utf8.{first_bad}
 use Rattle.xml_reader.specs.Limits.{scratch_limit}
 use Rattle.xml_references.specs.Decoded.{part}
 use Rattle.xml_attributes.specs.declared.Tag.{Tag}
-use Rattle.xml_attributes.specs.declared.Tag.TheVariants.{Start, Empty, Refused}
+use Rattle.xml_attributes.specs.declared.Tag.TheVariants.{Start, Empty}
 use Rattle.xml_names.specs.Names.{name_at, name_is}
 use Rattle.xml_tags.specs.Tags.{tag_at}
 use Rattle.xml_tags.specs.EndTags.{end_tag_end}
 use Rattle.xml_values.specs.declared.Place.{Place}
-use Rattle.xml_values.specs.declared.Place.TheVariants.{At, Nothing}
 use Rattle.xml_values.specs.declared.View.{View}
 use Rattle.xml_values.specs.declared.View.TheVariants.{Document, Scratch}
 use Rattle.xml_values.specs.Attributes.{attribute_place, value_at}
@@ -28,36 +26,35 @@ abbrev pub is_sound : List ℕ → Bool
 is_sound xs = eqb (first_bad xs) (length xs)
 
 -- the first piece opens an element: a start or an empty-element tag, well formed and within the limits
-abbrev pub is_tag : Tag → Bool
-is_tag (Start after) = true
-is_tag (Empty after) = true
-is_tag (Refused n) = false
+abbrev pub is_tag : Result Tag Reason → Bool
+is_tag (Ok tag) = true
+is_tag (Err reason) = false
 
 -- for an attribute no more is read than that piece
-abbrev pub is_sound_tag : List ℕ → Tag → Bool
-is_sound_tag r (Start after) = is_sound (take after r)
-is_sound_tag r (Empty after) = is_sound (take after r)
-is_sound_tag r (Refused n) = false
+abbrev pub is_sound_tag : List ℕ → Result Tag Reason → Bool
+is_sound_tag r (Ok (Start after)) = is_sound (take after r)
+is_sound_tag r (Ok (Empty after)) = is_sound (take after r)
+is_sound_tag r (Err n) = false
 
 unfoldable pub opens : List ℕ → Bool
 opens r = is_sound_tag r (tag_at r 0)
 
 -- for a text all is read, and is one element: the end tag behind the content, at position e, is the last piece and has the start tag's name
-abbrev pub ends_with : List ℕ → ℕ → Found → Bool
-ends_with r e (EndsAt after) = eqb after (length r) and name_is (name_at r 1) r (e + 2)
-ends_with r e NoEndTag = false
+abbrev pub ends_with : List ℕ → ℕ → Option ℕ → Bool
+ends_with r e (Some after) = eqb after (length r) and name_is (name_at r 1) r (e + 2)
+ends_with r e None = false
 
-unfoldable pub closes : List ℕ → Place → Bool
-closes r (At a e) = ends_with r e (end_tag_end r e)
-closes r Nothing = false
+unfoldable pub closes : List ℕ → Option Place → Bool
+closes r (Some p) = ends_with r p.after (end_tag_end r p.after)
+closes r None = false
 
 unfoldable pub is_element : List ℕ → Bool
 is_element r = is_sound r and is_tag (tag_at r 0) and closes r (text_place r 0)
 
 -- ---- the value asked for: its raw place in the range, and what it says
-unfoldable pub place_in : List ℕ → List ℕ → Place
-place_in r [] = pick (is_element r) (text_place r 0) Nothing
-place_in r (c ∷ name) = pick (opens r) (attribute_place r 0 (c ∷ name)) Nothing
+unfoldable pub place_in : List ℕ → List ℕ → Option Place
+place_in r [] = pick (is_element r) (text_place r 0) None
+place_in r (c ∷ name) = pick (opens r) (attribute_place r 0 (c ∷ name)) None
 
 unfoldable pub bytes_in : List ℕ → List ℕ → List ℕ
 bytes_in r [] = text_at r (place_in r [])

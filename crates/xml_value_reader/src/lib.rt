@@ -2,13 +2,11 @@
 #![tactic(auto)]
 
 ghost use Rattle.std.specs.Prelude.{◌≡◌, ◌≤◌, length, take};
-ghost use Rattle.text_scan.specs.declared.Found.{Found};
 ghost use Rattle.xml_tags.specs.EndTags.{end_tag_end};
 ghost use Rattle.xml_values.specs.Views.{Shows, as_read, ShowsAt};
-ghost use Rattle.xml_value_reader.specs.Shown.{is_sound, is_tag as tag_is, opens, ends_with, is_element, place_in, bytes_in, moved as movedBy, shown_of, value_of, Fills};
+ghost use Rattle.xml_value_reader.specs.Shown.{is_sound, opens, ends_with, is_element, place_in, bytes_in, moved as movedBy, shown_of, value_of, Fills};
 ghost use Rattle.xml_value_reader.specs.Moved.{Moves};
 
-use text_scan::Found;
 use xml_attributes::Tag;
 use xml_reader::Reader;
 use xml_values::{Place, View};
@@ -25,20 +23,12 @@ fn is_sound(r: &[u8], n: usize) -> bool
 fn is_opened(r: &[u8]) -> bool
     ensures { result ≡ opens r.now }
 {
-    match xml_tags::opening_at(r, 0) {
+    let Ok(tag) = xml_tags::opening_at(r, 0) else {
+        return false;
+    };
+    match tag {
         Tag::Start(after) => is_sound(r, after),
         Tag::Empty(after) => is_sound(r, after),
-        Tag::Refused(_) => false,
-    }
-}
-
-fn is_tag(tag: Tag) -> bool
-    ensures { result ≡ tag_is tag }
-{
-    match tag {
-        Tag::Start(_) => true,
-        Tag::Empty(_) => true,
-        Tag::Refused(_) => false,
     }
 }
 
@@ -46,7 +36,7 @@ fn is_tag(tag: Tag) -> bool
 fn is_closed(r: &[u8], e: usize) -> bool
     ensures { result ≡ ends_with r.now e (end_tag_end r.now e) }
 {
-    let Found::At(after) = xml_tags::end_tag_end(r, e) else {
+    let Some(after) = xml_tags::end_tag_end(r, e) else {
         return false;
     };
     if after != r.len() {
@@ -63,20 +53,20 @@ fn is_element(r: &[u8]) -> bool
     if text_chars::first_bad(r) != r.len() {
         return false;
     }
-    if is_tag(xml_tags::opening_at(r, 0)) {
-        let Place::At(_, e) = xml_texts::text_place(r, 0) else {
-            return false;
-        };
-        return is_closed(r, e);
+    if xml_tags::opening_at(r, 0).is_err() {
+        return false;
     }
-    false
+    let Some(place) = xml_texts::text_place(r, 0) else {
+        return false;
+    };
+    is_closed(r, place.after)
 }
 
 // Reads the value in a range, and shows it as a part of the range or in front of the scratch area.
 fn fill_range(r: &[u8], scratch: &mut [u8], name: &[u8]) -> View
     ensures { Shows r.now (place_in r.now name.now) (bytes_in r.now name.now) scratch.old result scratch.new }
 {
-    if name.len() == 0 {
+    if name.is_empty() {
         if is_element(r) {
             return xml_texts::text_value(r, 0, scratch);
         }

@@ -9,26 +9,24 @@ use native.Mathlib.Omega.{arith}
 use borrow.Author.Tests.{eq-eqb, ne_eqb, lt-ltb, le-ltb, le-leb, lt-leb, leb-true}
 use lib.Dec.{ltb, leb}
 use lib.ListN.{length, get_or}
-use Rattle.text_scan.specs.Choice.{◌or◌, ◌and◌, not}
+use Rattle.std.specs.Prelude.{Option, Some, None, cond}
+use Rattle.std.specs.List.{find}
+use Rattle.text_scan.specs.Choice.{pick, ◌or◌, ◌and◌, not}
 use Rattle.text_scan.specs.Lists.{begins}
-use Rattle.text_scan.proofs.Tests.{pick_case}
+use Rattle.text_scan.proofs.Tests.{pick_case, and_false}
 use Rattle.xml_names.specs.Names.{name_end, name_is}
 use Rattle.xml_reader.specs.Limits.{value_limit}
 use Rattle.xml_attributes.specs.declared.Attribute.{Attribute}
-use Rattle.xml_attributes.specs.declared.Attribute.TheVariants.{At as Attribute-at, Nothing as NoAttribute}
-use Rattle.xml_attributes.specs.declared.TagPart.{TagPart}
-use Rattle.xml_attributes.specs.declared.TagPart.TheVariants.{Read, Ended}
-use Rattle.xml_attributes.specs.declared.Tag.{Tag}
 use Rattle.xml_names.specs.ElementNames.{element_end}
 use Rattle.xml_attributes.specs.Attributes.{attribute_at}
 use Rattle.xml_attributes.specs.Chains.{items}
-use Rattle.xml_attributes.specs.Parts.{part_at, attributes, some_attribute}
-use Rattle.xml_attributes.proofs.Attributes.{Inside, attribute_inside}
-use Rattle.xml_attributes.proofs.Parts.{read_attribute, attributes_go, attributes_stop, attributes_out}
-use Rattle.xml_attributes.proofs.Some.{From, chain_out, row_ended, row_found, row_next}
+use Rattle.xml_attributes.specs.Parts.{attributes, some_attribute}
+use Rattle.xml_attributes.proofs.Pieces.{Inside, attribute_inside}
+use Rattle.xml_attributes.specs.Listed.{listed}
+use Rattle.xml_attributes.proofs.Listed.{Here, along, found_here}
 use Rattle.xml_values.specs.declared.Place.{Place}
-use Rattle.xml_values.specs.declared.Place.TheVariants.{At, Nothing}
 use Rattle.xml_values.specs.Attributes.{name_after, attributes_of, value_place, first_named, attribute_place, has_value, is_listed, is_other, has_other}
+use Rattle.xml_values.specs.Places.{from_to}
 
 -- ---- the name of the tag
 module _ (s : List ℕ) (first b : ℕ) (eb : b ≡ get_or s first 0) where
@@ -45,104 +43,84 @@ module _ (s : List ℕ) (first b : ℕ) (eb : b ≡ get_or s first 0) where
     unfolding name_after
     named h = rw (← eb, eq-eqb b (code "<") y, ← en, lt-ltb (first + 1) n h)
 
--- ---- the loop for a name: the value among the attributes from the tag's name on is that among those from i on
-abbrev pub Finds : List ℕ → List ℕ → ℕ → ℕ → Type 0
-Finds name s first i = attribute_place s first name ≡ first_named name s (items (attributes s i))
+-- ---- the value is that of the first attribute with the name
+abbrev pub has_name : List ℕ → List ℕ → Attribute → Bool
+has_name name s a = name_is name s a.at
 
-pub finds_start : (name s : List ℕ) (first i : ℕ) → i ≡ name_after s first → Finds name s first i
-unfolding attribute_place
-finds_start name s first i e = rw e
+first_of : (name s : List ℕ) (i : ℕ) → first_named name s (items (attributes s i)) ≡ value_place (find (has_name name s) (listed s i))
+unfolding first_named
+first_of name s = along s (λ bs l. first_named name s bs ≡ value_place (find (has_name name s) l)) refl (λ a h e. ap (λ x. pick (name_is name s a.at) (value_place x) (first_named name s (items (attributes s (a.value_end + 1))))) h.0 ∙ more (name_is name s a.at) a (listed s (a.value_end + 1)) _ e)
+  where
+    more : (t : Bool) (a : Attribute) (l : List Attribute) (p : Option Place) → p ≡ value_place (find (has_name name s) l) → pick t (value_place (Some a)) p ≡ value_place (cond t (Some a) (find (has_name name s) l))
+    more true a l p e = refl
+    more false a l p e = e
 
-module _ (name s : List ℕ) (first i : ℕ) (l : Finds name s first i) where
-  pub finds_out : length s ≤ i → Nothing ≡ attribute_place s first name
-  unfolding first_named items
-  finds_out h = sym (l ∙ rw (attributes_out s i h))
+module _ (name s : List ℕ) (first i : ℕ) (ei : i ≡ name_after s first) (r : Option Attribute) (er : r ≡ find (has_name name s) (listed s i)) where
+  finds : attribute_place s first name ≡ value_place r
+  unfolding attribute_place
+  finds = ap (λ (k : ℕ). first_named name s (items (attributes s k))) (sym ei) ∙ first_of name s i ∙ ap value_place (sym er)
 
-  module _ (h : i < length s) (x : TagPart) (ex : x ≡ part_at s i) where
-    pub finds_ended : (t : Tag) → x ≡ Ended t → Nothing ≡ attribute_place s first name
-    unfolding first_named items
-    finds_ended t z = sym (l ∙ rw (attributes_stop s i x ex t z h))
+  pub finds_none : r ≡ None → None ≡ attribute_place s first name
+  finds_none z = sym (finds ∙ rw z)
 
-    module _ (b n v e : ℕ) (z : x ≡ Read b n v e) (u : Bool) (eu : u ≡ name_is name s b) where
-      pub finds_next : u ≡ false → Finds name s first (e + 1)
-      unfolding first_named items
-      finds_next f = l ∙ rw (attributes_go s i x ex b n v e z h, ← eu, f)
+  module _ (a : Attribute) (z : r ≡ Some a) where
+    pub finds_ahead : a.value ≤ a.value_end
+    finds_ahead = (found_here s (has_name name s) i a (sym er ∙ z)).1.4
 
-      finds : u ≡ true → attribute_place s first name ≡ value_place (Attribute-at n v e)
-      unfolding first_named items
-      finds f = l ∙ rw (attributes_go s i x ex b n v e z h, ← eu, f) (ap value_place (read_attribute s i x ex b n v e z))
+    pub finds_within : a.value_end - a.value ≤ value_limit → from_to a.value a.value_end ≡ attribute_place s first name
+    finds_within k = sym (finds ∙ rw (z, le-leb (a.value_end - a.value) value_limit k))
 
-      pub finds_within : u ≡ true → e - v ≤ value_limit → At v e ≡ attribute_place s first name
-      finds_within f k = sym (finds f ∙ rw (le-leb (e - v) value_limit k))
-
-      pub finds_long : u ≡ true → value_limit < e - v → Nothing ≡ attribute_place s first name
-      finds_long f k = sym (finds f ∙ rw (lt-leb (e - v) value_limit k))
+    pub finds_long : value_limit < a.value_end - a.value → None ≡ attribute_place s first name
+    finds_long k = sym (finds ∙ rw (z, lt-leb (a.value_end - a.value) value_limit k))
 
 -- ---- three names, one after the other
-module _ (s : List ℕ) (b : ℕ) (valued : Bool) (x y z : List ℕ) (v : valued ≡ true) (t : Bool) (et : t ≡ name_is x s b) where
+module _ (s : List ℕ) (b : ℕ) (valued : Bool) (x y z : List ℕ) (t : Bool) (et : t ≡ name_is x s b) where
   abbrev Three : Bool
   Three = valued and not (is_listed (x ∷ y ∷ z ∷ []) s b)
 
   pub first_listed : t ≡ true → false ≡ Three
   unfolding is_listed
-  first_listed f = rw (v, ← et, f)
+  first_listed f = rw (← et, f) (sym (and_false valued))
 
   module _ (f : t ≡ false) (u : Bool) (eu : u ≡ name_is y s b) where
     pub second_listed : u ≡ true → false ≡ Three
     unfolding is_listed
-    second_listed g = rw (v, ← et, f, ← eu, g)
+    second_listed g = rw (← et, f, ← eu, g) (sym (and_false valued))
 
     module _ (g : u ≡ false) (w : Bool) (ew : w ≡ name_is z s b) where
       pub third_listed : w ≡ true → false ≡ Three
       unfolding is_listed
-      third_listed k = rw (v, ← et, f, ← eu, g, ← ew, k)
+      third_listed k = rw (← et, f, ← eu, g, ← ew, k) (sym (and_false valued))
 
-      pub none_listed : w ≡ false → true ≡ Three
+      pub none_listed : w ≡ false → valued ≡ true → true ≡ Three
       unfolding is_listed
-      none_listed k = rw (v, ← et, f, ← eu, g, ← ew, k)
+      none_listed k v = rw (v, ← et, f, ← eu, g, ← ew, k)
 
 pub no_value : (s : List ℕ) (b : ℕ) (valued : Bool) (names : List (List ℕ)) → valued ≡ false → false ≡ valued and not (is_listed names s b)
 no_value s b valued names f = rw f
 
--- ---- the loop for an attribute that is not listed: the answer for the attributes from the tag's name on is that for those from i on
-abbrev pub Others : List (List ℕ) → List ℕ → ℕ → ℕ → Type 0
-Others names s first i = From (λ b _. is_other names s b) s (name_after s first) i
+-- ---- an attribute that is not listed
+abbrev pub other : List (List ℕ) → List ℕ → Attribute → Bool
+other names s a = ltb a.value a.value_end and not (is_listed names s a.at)
 
-pub others_start : (names : List (List ℕ)) (s : List ℕ) (first i : ℕ) → i ≡ name_after s first → Others names s first i
-others_start names s first i e = rw e
+pub other_here : (names : List (List ℕ)) (s : List ℕ) (a : Attribute) → Here s a → other names s a ≡ is_other names s a.at
+unfolding is_other
+other_here names s a h = rw h.0
 
-module _ (names : List (List ℕ)) (s : List ℕ) (first i : ℕ) (l : Others names s first i) where
-  pub others_out : length s ≤ i → false ≡ has_other s first names
-  unfolding has_other
-  others_out h = chain_out (λ b _. is_other names s b) s (name_after s first) i l h
-
-  module _ (h : i < length s) (x : TagPart) (ex : x ≡ part_at s i) where
-    pub others_ended : (t : Tag) → x ≡ Ended t → false ≡ has_other s first names
-    unfolding has_other
-    others_ended t z = row_ended (λ b _. is_other names s b) s (name_after s first) i l h x ex t z
-
-    module _ (b n v e : ℕ) (z : x ≡ Read b n v e) (u : Bool) (eu : u ≡ ltb v e and not (is_listed names s b)) where
-      other : u ≡ is_other names s b
-      unfolding is_other
-      other = eu ∙ rw (read_attribute s i x ex b n v e z)
-
-      pub others_found : u ≡ true → true ≡ has_other s first names
-      unfolding has_other
-      others_found f = row_found (λ b _. is_other names s b) s (name_after s first) i l h x ex b n v e z u other f
-
-      pub others_next : u ≡ false → Others names s first (e + 1)
-      others_next f = row_next (λ b _. is_other names s b) s (name_after s first) i l h x ex b n v e z u other f
+pub others_told : (names : List (List ℕ)) (s : List ℕ) (first i : ℕ) (r : Bool) → i ≡ name_after s first → r ≡ some_attribute (λ b _. is_other names s b) (items (attributes s i)) → r ≡ has_other s first names
+unfolding has_other
+others_told names s first i r e f = f ∙ rw e
 
 -- ---- bounds: a raw value stands within, and within the limit
-abbrev pub Within : List ℕ → Place → Type 0
-Within s (At a e) = (a ≤ e) × (e ≤ length s) × (e - a ≤ value_limit)
-Within s Nothing = Unit {0}
+abbrev pub Within : List ℕ → Option Place → Type 0
+Within s (Some p) = (p.first ≤ p.after) × (p.after ≤ length s) × (p.after - p.first ≤ value_limit)
+Within s None = Unit {0}
 
 module _ (s : List ℕ) where
-  value_within : (b : ℕ) (x : Attribute) → Inside s b x → Within s (value_place x)
-  value_within b (Attribute-at n v e) w =
-      pick_case (Within s) (leb (e - v) value_limit) _ _ (λ k. (w.3, omega (arith, w.4), leb-true (e - v) value_limit k)) (λ _. tt)
-  value_within b NoAttribute w = tt
+  value_within : (b : ℕ) (x : Option Attribute) → Inside s b x → Within s (value_place x)
+  value_within b (Some a) w =
+      pick_case (Within s) (leb (a.value_end - a.value) value_limit) _ _ (λ k. (w.4, omega (arith, w.5), leb-true (a.value_end - a.value) value_limit k)) (λ _. tt)
+  value_within b None w = tt
 
   named_within : (name bs : List ℕ) → Within s (first_named name s bs)
   unfolding first_named
@@ -155,17 +133,17 @@ module _ (s : List ℕ) where
   attribute_within first name = named_within name (attributes_of s first)
 
 -- the same of a place that the code was told
-module _ (s : List ℕ) (first : ℕ) (name : List ℕ) (p : Place) (ep : p ≡ attribute_place s first name) (a e : ℕ) (z : p ≡ At a e) where
-  told : Within s (At a e)
+module _ (s : List ℕ) (first : ℕ) (name : List ℕ) (p : Option Place) (ep : p ≡ attribute_place s first name) (there : Place) (z : p ≡ Some there) where
+  told : Within s (Some there)
   told = rw z at (rw (← ep) at (attribute_within s first name))
 
-  pub place_ahead : a ≤ e
+  pub place_ahead : there.first ≤ there.after
   place_ahead = told.0
 
-  pub place_inside : e ≤ length s
+  pub place_inside : there.after ≤ length s
   place_inside = told.1
 
-  pub place_room : (out : List ℕ) → value_limit ≤ length out → e - a ≤ length out
+  pub place_room : (out : List ℕ) → value_limit ≤ length out → there.after - there.first ≤ length out
   place_room out h = omega (arith, told.2)
 
 -- ---- for callers: an empty name lists nothing, so a caller with fewer names hands in empty ones
@@ -182,9 +160,9 @@ append_other : (names : List (List ℕ)) (s : List ℕ) (b : ℕ) → is_other (
 unfolding is_other
 append_other names s b = go (attribute_at s b) (attribute_inside s b)
   where
-    go : (x : Attribute) → Inside s b x → has_value x and not (is_listed (names ++ ([] ∷ [])) s b) ≡ has_value x and not (is_listed names s b)
-    go (Attribute-at n v e) w = rw (append_listed names s b (unnamed s b (rw w.0 at w.1)))
-    go NoAttribute w = refl
+    go : (x : Option Attribute) → Inside s b x → has_value x and not (is_listed (names ++ ([] ∷ [])) s b) ≡ has_value x and not (is_listed names s b)
+    go (Some a) w = rw (append_listed names s b (unnamed s b (rw w.1 at w.2)))
+    go None w = refl
 
 some_same : (p q : ℕ → List ℕ → Bool) → ((b : ℕ) (bs : List ℕ) → p b bs ≡ q b bs) → (bs : List ℕ) → some_attribute p bs ≡ some_attribute q bs
 unfolding some_attribute

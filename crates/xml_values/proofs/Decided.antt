@@ -6,6 +6,7 @@ use Rattle.xml_values.proofs.is_bare
 use Rattle.xml_values.proofs.attribute_place
 use Rattle.xml_values.proofs.has_other_attribute
 use Rattle.xml_values.proofs.all_shown
+use Rattle.xml_values.proofs.plain
 use Rattle.xml_values.proofs.plain_attribute
 use Rattle.xml_values.proofs.attribute_value
 use Rattle.xml_values.proofs.shown
@@ -25,6 +26,9 @@ has_other_attribute_decided κs a x y s t = only
 
 pub all_shown_decided : Answers all_shown.Kinds.ps all_shown.Kinds.r all_shown.Reads.Post
 all_shown_decided κs a x y s t = only
+
+pub plain_decided : Answers plain.Kinds.ps plain.Kinds.r plain.Reads.Post
+plain_decided κs a x y s t = only
 
 pub plain_attribute_decided : Answers plain_attribute.Kinds.ps plain_attribute.Kinds.r plain_attribute.Reads.Post
 plain_attribute_decided κs a x y s t = only

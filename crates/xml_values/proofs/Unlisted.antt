@@ -10,6 +10,7 @@ use native.Mathlib.Omega.{arith}
 use borrow.Author.Tests.{eq-eqb, ltb-false, eqb-true}
 use lib.Dec.{eqb, leb}
 use lib.ListN.{length, get_or, drop}
+use Rattle.std.specs.Prelude.{Option, Some, None, Ok}
 use Rattle.text_scan.specs.Choice.{◌or◌}
 use Rattle.text_scan.specs.Lists.{begins, stands, pairs}
 use Rattle.text_scan.proofs.Tests.{never, pick_case, and_left, and_right, and_true, or_left, or_right}
@@ -20,15 +21,14 @@ use Rattle.xml_names.specs.Names.{is_space, space_end, name_end, name_is}
 use Rattle.xml_reader.specs.Limits.{value_limit}
 use Rattle.xml_references.specs.Decoded.{replaced}
 use Rattle.xml_attributes.specs.declared.Attribute.{Attribute}
-use Rattle.xml_attributes.specs.declared.Attribute.TheVariants.{At as Attribute-at, Nothing as NoAttribute}
 use Rattle.xml_attributes.specs.declared.TagPart.TheVariants.{Ended}
 use Rattle.xml_attributes.specs.declared.Tag.TheVariants.{Start}
 use Rattle.xml_attributes.specs.Attributes.{attribute_at}
 use Rattle.xml_attributes.specs.Chains.{items}
 use Rattle.xml_attributes.specs.Parts.{some_attribute}
 use Rattle.xml_attributes.proofs.Parts.{part_start, attributes_stop}
-use Rattle.xml_values.specs.declared.Place.TheVariants.{At, Nothing}
 use Rattle.xml_values.specs.Attributes.{name_after, is_bare, attributes_of, value_place, first_named, attribute_place, value_at, attribute_of, has_value, is_listed, is_other, has_other}
+use Rattle.xml_values.specs.Places.{from_to}
 
 -- ---- a bare tag
 pub bare_byte : (s : List ℕ) (first n b : ℕ) → n ≡ name_after s first → b ≡ get_or s n 0 → eqb b (code ">") ≡ is_bare s first
@@ -45,7 +45,7 @@ bare_none s first t =
     let e : get_or s i 0 ≡ code ">" = eqb-true (get_or s i 0) (code ">") t in
     let h : i < length s = there s i (code ">") (omega arith) e in
     let g : i ≡ space_end s i = run_stops is_space s i i refl false h (no_space (get_or s i 0) e) refl in
-    rw (attributes_stop s i (Ended (Start (i + 1))) (part_start s i i g (get_or s i 0) refl e) (Start (i + 1)) refl h)
+    rw (attributes_stop s i (Ended (Ok (Start (i + 1)))) (part_start s i i g (get_or s i 0) refl e) (Ok (Start (i + 1))) refl h)
 
 pub bare_other : (s : List ℕ) (first : ℕ) (names : List (List ℕ)) → is_bare s first ≡ true → has_other s first names ≡ false
 unfolding has_other some_attribute
@@ -79,12 +79,12 @@ not_listed (t ∷ ts) name s b e f = go (name_is t s b) refl (not_listed ts name
     go false g k = rw (g, k)
 
 -- ---- what has no value says nothing
-empty_says : (s : List ℕ) (x : Attribute) → has_value x ≡ false → value_at s (value_place x) ≡ []
+empty_says : (s : List ℕ) (x : Option Attribute) → has_value x ≡ false → value_at s (value_place x) ≡ []
 unfolding replaced
-empty_says s (Attribute-at n v e) f =
-    let z : e - v ≡ 0 = omega (arith, ltb-false v e f) in
-    pick_case (λ p. value_at s p ≡ []) (leb (e - v) value_limit) (At v e) Nothing (λ _. rw z) (λ _. refl)
-empty_says s NoAttribute f = refl
+empty_says s (Some a) f =
+    let z : a.value_end - a.value ≡ 0 = omega (arith, ltb-false a.value a.value_end f) in
+    pick_case (λ p. value_at s p ≡ []) (leb (a.value_end - a.value) value_limit) (from_to a.value a.value_end) None (λ _. rw z) (λ _. refl)
+empty_says s None f = refl
 
 module _ (s : List ℕ) (names : List (List ℕ)) (name : List ℕ) (u : is_one_of names name ≡ false) where
   nothing_said : (bs : List ℕ) → some_attribute (λ b _. is_other names s b) bs ≡ false → value_at s (first_named name s bs) ≡ []

@@ -1,43 +1,43 @@
 -- How a value is shown, by the tests of the code; and that the bytes which are shown are those that the value says.
 -- Assumes nothing.
+use Rattle.std.specs.Prelude.{Option, None, Some}
 use mathlib.Core.Path.{◌≡◌, refl, sym, ◌∙◌, ap}
-use mathlib.Core.Bool.{Bool, true, false}
+use mathlib.Core.Bool.{Bool, true, false, ◌&&◌}
+use Rattle.std.specs.List.{list_all}
 use mathlib.Core.List.{List, [], ◌∷◌, ◌++◌}
 use Prim.Native.Nat.{ℕ, ◌+◌, ◌-◌, ◌<◌, ◌≤◌}
 use Prim.Native.Char.{code}
 use native.Mathlib.Omega.{arith}
-use borrow.Author.Tests.{eq-eqb, ne_eqb, le-leb, lt-leb, leb-true}
+use borrow.Author.Tests.{le-leb, lt-leb, leb-true}
 use lib.Dec.{eqb, leb}
-use lib.ListN.{length, take, drop, get_or, length-append, length-drop}
+use lib.ListN.{length, take, drop, length-append, length-drop}
 use lib.Seq.{sets, take_at, length-take-le}
 use denote.Ref.{Bor}
 use Rattle.text_scan.specs.Choice.{pick, ◌and◌, not}
 use Rattle.text_scan.specs.Lists.{every}
-use Rattle.text_scan.proofs.Tests.{pick_case, and_left, and_right, and_false}
+use Rattle.text_scan.proofs.Tests.{pick_case, and_left, and_right}
 use Rattle.text_scan.proofs.Within.{inside}
-use Rattle.text_scan.proofs.Lists.{Every, every_goes, every_stops}
 use Rattle.xml_reader.specs.Limits.{value_limit}
 use Rattle.xml_references.specs.Decoded.{part, decoded, is_plain}
 use Rattle.xml_references.proofs.Replaced.{decoded_most, plain_same}
 use Rattle.xml_references.proofs.Writes.{fronted}
 use Rattle.xml_values.specs.declared.Place.{Place}
-use Rattle.xml_values.specs.declared.Place.TheVariants.{At, Nothing}
 use Rattle.xml_values.specs.declared.View.{View}
 use Rattle.xml_values.specs.declared.View.TheVariants.{Document, Scratch}
 use Rattle.xml_values.specs.Attributes.{attribute_place, value_at, attribute_of}
-use Rattle.xml_values.specs.Views.{is_shown, view_of, view_in, said_in, plain_of, scratch_after, seen, InRange, view_within, Shows, stand_of, ShowsAt}
+use Rattle.xml_values.specs.Views.{is_shown, view_of, view_in, said_in, plain_of, StandsIn, scratch_after, seen, InRange, view_within, Shows, stand_of, ShowsAt}
 use Rattle.xml_values.proofs.Attributes.{Within, attribute_within, place_room}
+use Rattle.xml_values.specs.Places.{from_to}
 
--- ---- the loop over raw bytes
-module _ (s : List ℕ) (i : ℕ) (l : Every is_shown s i) (h : i < length s) where
-  pub shown_reference : get_or s i 0 ≡ code "&" → false ≡ every is_shown s
-  shown_reference a = every_stops is_shown s i l false h (rw (eq-eqb (get_or s i 0) (code "&") a)) refl
-
-  pub shown_markup : get_or s i 0 ≡ code "<" → false ≡ every is_shown s
-  shown_markup a = every_stops is_shown s i l false h (rw (eq-eqb (get_or s i 0) (code "<") a) (sym (and_false (not (eqb (get_or s i 0) (code "&")))))) refl
-
-  pub shown_goes : (get_or s i 0 ≡ code "&" → ⊥) → (get_or s i 0 ≡ code "<" → ⊥) → Every is_shown s (i + 1)
-  shown_goes a b = every_goes is_shown s i l true h (rw (ne_eqb (get_or s i 0) (code "&") a, ne_eqb (get_or s i 0) (code "<") b)) refl
+-- ---- all bytes, asked by an iterator
+pub all_every : (p : ℕ → Bool) (xs : List ℕ) → list_all p xs ≡ every p xs
+unfolding every
+all_every p [] = refl
+all_every p (x ∷ xs) = both (p x) (list_all p xs) (every p xs) (all_every p xs)
+  where
+    both : (t a b : Bool) → a ≡ b → t && a ≡ t and b
+    both true a b e = e
+    both false a b e = refl
 
 -- what is shown as it stands has no reference
 pub shown_plain : (xs : List ℕ) → every is_shown xs ≡ true → every is_plain xs ≡ true
@@ -47,7 +47,7 @@ shown_plain (x ∷ xs) e =
     rw (and_left (not (eqb x (code "&"))) (not (eqb x (code "<"))) (and_left (is_shown x) (every is_shown xs) e)) (shown_plain xs (and_right (is_shown x) (every is_shown xs) e))
 
 -- ---- with a scratch area that has room for a value, and with one that has not
-module _ (s : List ℕ) (place : Place) (bytes out : List ℕ) where
+module _ (s : List ℕ) (place : Option Place) (bytes out : List ℕ) where
   pub view_roomy : value_limit ≤ length out → view_in out s place bytes ≡ view_of s place bytes
   unfolding view_in
   view_roomy h = rw (le-leb value_limit (length out) h)
@@ -70,14 +70,14 @@ unfolding said_in
 room_says out said bytes e h = e ∙ rw (le-leb value_limit (length out) h)
 
 -- ---- by the tests of the code, which was told the place p
-module _ (s : List ℕ) (place : Place) (bytes out : List ℕ) (p : Place) (ep : p ≡ place) where
-  pub shows_nothing : p ≡ Nothing → Shows s place bytes out (Document 0 0) out
+module _ (s : List ℕ) (place : Option Place) (bytes out : List ℕ) (p : Option Place) (ep : p ≡ place) where
+  pub shows_nothing : p ≡ None → Shows s place bytes out (Document 0 0) out
   unfolding view_in view_of
   shows_nothing z =
       shows_empty s place bytes out (rw (← ep, z) (pick_case (λ v. v ≡ Document 0 0) (leb value_limit (length out)) (Document 0 0) (Document 0 0) (λ _. refl) (λ _. refl)))
 
-  module _ (a e : ℕ) (z : p ≡ At a e) (t : Bool) (et : t ≡ every is_shown (part s a e)) (room : value_limit ≤ length out) where
-    pub shows_part : t ≡ true → Shows s place bytes out (Document a e) out
+  module _ (there : Place) (z : p ≡ Some there) (t : Bool) (et : t ≡ every is_shown (part s there.first there.after)) (room : value_limit ≤ length out) where
+    pub shows_part : t ≡ true → Shows s place bytes out (Document there.first there.after) out
     unfolding view_of scratch_after
     shows_part f = record { answers = rw (view_roomy s place bytes out room, ← ep, z, ← et, f); leaves = rw (view_roomy s place bytes out room, ← ep, z, ← et, f) }
 
@@ -87,54 +87,65 @@ module _ (s : List ℕ) (place : Place) (bytes out : List ℕ) (p : Place) (ep :
         record { answers = rw (view_roomy s place bytes out room, ← ep, z, ← et, f, g.0); leaves = rw (view_roomy s place bytes out room, ← ep, z, ← et, f, ← g.0) g.1 }
 
 -- ---- where it says the bytes there, by the same tests
-module _ (s : List ℕ) (place p : Place) (ep : p ≡ place) where
-  pub plain_nothing : p ≡ Nothing → At 0 0 ≡ plain_of s place
+module _ (s : List ℕ) (place p : Option Place) (ep : p ≡ place) where
+  pub plain_nothing : p ≡ None → from_to 0 0 ≡ plain_of s place
   unfolding plain_of
   plain_nothing z = rw (← ep, z)
 
-  module _ (a e : ℕ) (z : p ≡ At a e) (t : Bool) (et : t ≡ every is_shown (part s a e)) where
-    pub plain_part : t ≡ true → At a e ≡ plain_of s place
+  module _ (there : Place) (z : p ≡ Some there) (t : Bool) (et : t ≡ every is_shown (part s there.first there.after)) where
+    pub plain_part : t ≡ true → Some there ≡ plain_of s place
     unfolding plain_of
     plain_part f = rw (← ep, z, ← et, f)
 
-    pub not_plain : t ≡ false → Nothing ≡ plain_of s place
+    pub not_plain : t ≡ false → None ≡ plain_of s place
     unfolding plain_of
     not_plain f = rw (← ep, z, ← et, f)
 
+-- its place is within
+pub stands_at : (s : List ℕ) (p : Option Place) → StandsIn s p → (there : Place) → p ≡ Some there → (there.first ≤ there.after) × (there.after ≤ length s)
+stands_at s p w there z = rw z at w
+
+pub attribute_stands : (s : List ℕ) (first : ℕ) (name : List ℕ) (p : Option Place) → p ≡ attribute_place s first name → StandsIn s p
+attribute_stands s first name p ep = go p (rw (← ep) at (attribute_within s first name))
+  where
+    go : (q : Option Place) → Within s q → StandsIn s q
+    go (Some p) w = (w.0, w.1)
+    go None w = tt
+
 -- ---- what is seen
 -- a value with this raw place, which is within and within the limit: it says the bytes there, where they are shown as they stand, and never more
-abbrev pub Says : List ℕ → Place → List ℕ → Type 0
-Says s (At a e) bytes =
-    (a ≤ e) × (e ≤ length s) × (e - a ≤ value_limit) × (every is_shown (part s a e) ≡ true → bytes ≡ part s a e) × (length bytes ≤ e - a)
-Says s Nothing bytes = bytes ≡ []
+abbrev pub Says : List ℕ → Option Place → List ℕ → Type 0
+Says s (Some p) bytes =
+    (p.first ≤ p.after) × (p.after ≤ length s) × (p.after - p.first ≤ value_limit) × (every is_shown (part s p.first p.after) ≡ true → bytes ≡ part s p.first p.after) × (length bytes ≤ p.after - p.first)
+Says s None bytes = bytes ≡ []
 
-pub says_most : (s : List ℕ) (place : Place) (bytes : List ℕ) → Says s place bytes → length bytes ≤ value_limit
-says_most s (At a e) bytes k = omega (arith, k.2, k.4)
-says_most s Nothing bytes k = rw k (omega arith)
+pub says_most : (s : List ℕ) (place : Option Place) (bytes : List ℕ) → Says s place bytes → length bytes ≤ value_limit
+says_most s (Some p) bytes k = omega (arith, k.2, k.4)
+says_most s None bytes k = rw k (omega arith)
 
 module _ (s bytes scratch : List ℕ) where
   -- of the view that the definition gives, and the scratch area that it leaves
   Seen : View → List ℕ → Type 0
   Seen v said = InRange s (scratch_after v bytes scratch) v × (seen s (scratch_after v bytes scratch) v ≡ said)
 
-  seen_at : value_limit ≤ length scratch → (a e : ℕ) → Says s (At a e) bytes → (t : Bool) → every is_shown (part s a e) ≡ t → Seen (pick t (Document a e) (Scratch (length bytes))) bytes
+  seen_at : value_limit ≤ length scratch → (a e : ℕ) → Says s (from_to a e) bytes → (t : Bool) → every is_shown (part s a e) ≡ t → Seen (pick t (Document a e) (Scratch (length bytes))) bytes
   unfolding Seen scratch_after
   seen_at room a e k true q = ((k.0, k.1), sym (k.3 q))
   seen_at room a e k false q =
       (simp (length-append, length-drop) (omega arith), take_at bytes (drop (length bytes) scratch) (length bytes) refl)
 
-  seen_of : value_limit ≤ length scratch → (place : Place) → Says s place bytes → Seen (view_of s place bytes) bytes
+  seen_of : value_limit ≤ length scratch → (place : Option Place) → Says s place bytes → Seen (view_of s place bytes) bytes
   unfolding view_of Seen scratch_after
-  seen_of room (At a e) k = seen_at room a e k (every is_shown (part s a e)) refl
-  seen_of room Nothing k = ((omega arith, omega arith), sym k)
+  seen_of room (Some p) k = seen_at room p.first p.after k (every is_shown (part s p.first p.after)) refl
+  seen_of room None k = ((omega arith, omega arith), sym k)
 
-  seen_in : (place : Place) → Says s place bytes → Seen (view_in scratch s place bytes) (said_in scratch bytes)
+  seen_in : (place : Option Place) → Says s place bytes → Seen (view_in scratch s place bytes) (said_in scratch bytes)
   unfolding view_in said_in Seen scratch_after
   seen_in place k =
       inside value_limit (length scratch) (λ h. rw (lt-leb value_limit (length scratch) h) ((omega arith, omega arith), refl))
       (λ h. rw (le-leb value_limit (length scratch) h) (seen_of h place k))
 
-  module _ (place : Place) (k : Says s place bytes) (view : View) (after : List ℕ) (x : Shows s place bytes scratch view after) where
+  module _ (place : Option Place) (k : Says s place bytes) (view : View) (after : List ℕ) (x : Shows s place bytes scratch view after) where
     pub in_range : InRange s after view
     unfolding Seen
     in_range = rw (x.leaves, x.answers) (seen_in place k).0
@@ -144,18 +155,18 @@ module _ (s bytes scratch : List ℕ) where
     seen_is = rw (x.leaves, x.answers) (seen_in place k).1
 
 -- ---- for callers: a value that stands within and says the bytes there
-abbrev pub AsItStands : List ℕ → List ℕ → Place → Type 0
-AsItStands s bytes (At a e) = (a ≤ e) × (e ≤ length s) × (part s a e ≡ bytes)
-AsItStands s bytes Nothing = Unit {0}
+abbrev pub AsItStands : List ℕ → List ℕ → Option Place → Type 0
+AsItStands s bytes (Some p) = (p.first ≤ p.after) × (p.after ≤ length s) × (part s p.first p.after ≡ bytes)
+AsItStands s bytes None = Unit {0}
 
-pub plain_stands : (s bytes : List ℕ) (place : Place) → Says s place bytes → AsItStands s bytes (plain_of s place)
+pub plain_stands : (s bytes : List ℕ) (place : Option Place) → Says s place bytes → AsItStands s bytes (plain_of s place)
 unfolding plain_of
-plain_stands s bytes (At a e) k = go (every is_shown (part s a e)) refl
+plain_stands s bytes (Some p) k = go (every is_shown (part s p.first p.after)) refl
   where
-    go : (t : Bool) → every is_shown (part s a e) ≡ t → AsItStands s bytes (pick t (At a e) Nothing)
+    go : (t : Bool) → every is_shown (part s p.first p.after) ≡ t → AsItStands s bytes (pick t (from_to p.first p.after) None)
     go true q = (k.0, k.1, sym (k.3 q))
     go false q = tt
-plain_stands s bytes Nothing k = (omega arith, omega arith, sym k)
+plain_stands s bytes None k = (omega arith, omega arith, sym k)
 
 -- ---- the parts that are shown, for the code
 module _ (s scratch : List ℕ) (view : View) (r : InRange s scratch view) where
@@ -242,18 +253,18 @@ shown_of d t view r x w o right said q v b =
     record { says = x.says ∙ ap (seen d.now t.now) e ∙ b; stands = x.stands ∙ ap (stand_of d t) e ∙ same_stand d t o view q ∙ ap (stand_of d o) v }
 
 -- ---- an attribute's value is shown, and seen
-pub attribute_front : (s : List ℕ) (first : ℕ) (name out : List ℕ) (p : Place) → p ≡ attribute_place s first name → (a e : ℕ) → p ≡ At a e → (t : Bool) → t ≡ every is_shown (part s a e) → value_limit ≤ length out → (n : ℕ) (out' : List ℕ) → t ≡ false → (n ≡ length (decoded s a e)) × (out' ≡ sets out 0 (decoded s a e)) → Shows s (attribute_place s first name) (attribute_of s first name) out (Scratch n) out'
-attribute_front s first name out p ep a e z t et room n out' f g =
-    let q : attribute_place s first name ≡ At a e = sym ep ∙ z in
-    let w : (n ≡ length (decoded s a e)) × (out' ≡ decoded s a e ++ drop n out) = fronted s out out' a e n (place_room s first name p ep a e z out room) g in
-    shows_front s (attribute_place s first name) (attribute_of s first name) out p ep a e z t et room n out' f (rw q w)
+pub attribute_front : (s : List ℕ) (first : ℕ) (name out : List ℕ) (p : Option Place) → p ≡ attribute_place s first name → (there : Place) → p ≡ Some there → (t : Bool) → t ≡ every is_shown (part s there.first there.after) → value_limit ≤ length out → (n : ℕ) (out' : List ℕ) → t ≡ false → (n ≡ length (decoded s there.first there.after)) × (out' ≡ sets out 0 (decoded s there.first there.after)) → Shows s (attribute_place s first name) (attribute_of s first name) out (Scratch n) out'
+attribute_front s first name out p ep there z t et room n out' f g =
+    let q : attribute_place s first name ≡ Some there = sym ep ∙ z in
+    let w : (n ≡ length (decoded s there.first there.after)) × (out' ≡ decoded s there.first there.after ++ drop n out) = fronted s out out' there.first there.after n (place_room s first name p ep there z out room) g in
+    shows_front s (attribute_place s first name) (attribute_of s first name) out p ep there z t et room n out' f (rw q w)
 
 pub attribute_says : (s : List ℕ) (first : ℕ) (name : List ℕ) → Says s (attribute_place s first name) (attribute_of s first name)
 attribute_says s first name = go (attribute_place s first name) (attribute_within s first name)
   where
-    go : (p : Place) → Within s p → Says s p (value_at s p)
-    go (At a e) w = (w.0, w.1, w.2, λ q. plain_same (part s a e) (shown_plain (part s a e) q), decoded_most s a e)
-    go Nothing w = refl
+    go : (p : Option Place) → Within s p → Says s p (value_at s p)
+    go (Some p) w = (w.0, w.1, w.2, λ q. plain_same (part s p.first p.after) (shown_plain (part s p.first p.after) q), decoded_most s p.first p.after)
+    go None w = refl
 
 module _ (s : List ℕ) (first : ℕ) (name scratch : List ℕ) (view : View) (after : List ℕ) (x : Shows s (attribute_place s first name) (attribute_of s first name) scratch view after) where
   pub attribute_in_range : InRange s after view
@@ -263,16 +274,16 @@ module _ (s : List ℕ) (first : ℕ) (name scratch : List ℕ) (view : View) (a
   attribute_seen = seen_is s (attribute_of s first name) scratch (attribute_place s first name) (attribute_says s first name) view after x
 
 -- ---- an attribute that says the bytes where it stands
-module _ (s : List ℕ) (first : ℕ) (name : List ℕ) (p : Place) where
-  module _ (ep : p ≡ plain_of s (attribute_place s first name)) (a e : ℕ) (z : p ≡ At a e) where
-    stands : AsItStands s (attribute_of s first name) (At a e)
+module _ (s : List ℕ) (first : ℕ) (name : List ℕ) (p : Option Place) where
+  module _ (ep : p ≡ plain_of s (attribute_place s first name)) (there : Place) (z : p ≡ Some there) where
+    stands : AsItStands s (attribute_of s first name) (Some there)
     stands = rw (sym ep ∙ z) at (plain_stands s (attribute_of s first name) (attribute_place s first name) (attribute_says s first name))
 
-    pub plain_attribute_ahead : a ≤ e
+    pub plain_attribute_ahead : there.first ≤ there.after
     plain_attribute_ahead = stands.0
 
-    pub plain_attribute_inside : e ≤ length s
+    pub plain_attribute_inside : there.after ≤ length s
     plain_attribute_inside = stands.1
 
-    pub plain_attribute_says : part s a e ≡ attribute_of s first name
+    pub plain_attribute_says : part s there.first there.after ≡ attribute_of s first name
     plain_attribute_says = stands.2

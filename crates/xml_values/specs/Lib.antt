@@ -1,3 +1,4 @@
+pub mod Places
 pub mod Attributes
 pub mod Views
 pub mod Examples

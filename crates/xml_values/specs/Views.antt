@@ -1,7 +1,7 @@
 -- How a value is shown (document 01, "Reading the document"): one without references or dropped parts as that part of the document, any other as the
 -- front of the scratch area. An absent value is an empty part of the document, and with scratch under 4,096 bytes every value is.
 -- Assumes nothing.
-use Rattle.std.specs.Prelude.{ℕ, ◌+◌, ◌≤◌, ◌≡◌, Bool, List, [], ◌++◌, eqb, leb, length, take, drop}
+use Rattle.std.specs.Prelude.{ℕ, ◌+◌, ◌≤◌, ◌≡◌, Bool, List, [], ◌++◌, eqb, leb, length, take, drop, Option, None, Some}
 use Prim.Native.Char.{code}
 use Rattle.std.specs.Borrow.{Bor, MutBor}
 use Rattle.text_scan.specs.Choice.{pick, ◌and◌, not}
@@ -9,30 +9,35 @@ use Rattle.text_scan.specs.Lists.{every}
 use Rattle.xml_reader.specs.Limits.{value_limit}
 use Rattle.xml_references.specs.Decoded.{part}
 use Rattle.xml_values.specs.declared.Place.{Place}
-use Rattle.xml_values.specs.declared.Place.TheVariants.{At, Nothing}
 use Rattle.xml_values.specs.declared.View.{View}
 use Rattle.xml_values.specs.declared.View.TheVariants.{Document, Scratch}
+use Rattle.xml_values.specs.Places.{from_to}
 
 -- a byte that begins neither a reference nor a comment or an instruction
 abbrev pub is_shown : ℕ → Bool
 is_shown b = not (eqb b (code "&")) and not (eqb b (code "<"))
 
 -- how the value with this raw place, which says these bytes, is shown
-unfoldable pub view_of : List ℕ → Place → List ℕ → View
-view_of s (At a e) bytes = pick (every is_shown (part s a e)) (Document a e) (Scratch (length bytes))
-view_of s Nothing bytes = Document 0 0
+unfoldable pub view_of : List ℕ → Option Place → List ℕ → View
+view_of s (Some p) bytes = pick (every is_shown (part s p.first p.after)) (Document p.first p.after) (Scratch (length bytes))
+view_of s None bytes = Document 0 0
 
 -- the same with this scratch area, and the bytes that are seen then
-unfoldable pub view_in : List ℕ → List ℕ → Place → List ℕ → View
+unfoldable pub view_in : List ℕ → List ℕ → Option Place → List ℕ → View
 view_in scratch s place bytes = pick (leb value_limit (length scratch)) (view_of s place bytes) (Document 0 0)
 
 unfoldable pub said_in : List ℕ → List ℕ → List ℕ
 said_in scratch bytes = pick (leb value_limit (length scratch)) bytes []
 
 -- where a value stands that says the bytes there; an absent one is an empty part. Nothing where it has to be decoded
-unfoldable pub plain_of : List ℕ → Place → Place
-plain_of s (At a e) = pick (every is_shown (part s a e)) (At a e) Nothing
-plain_of s Nothing = At 0 0
+unfoldable pub plain_of : List ℕ → Option Place → Option Place
+plain_of s (Some p) = pick (every is_shown (part s p.first p.after)) (from_to p.first p.after) None
+plain_of s None = from_to 0 0
+
+-- a value's raw place is within
+abbrev pub StandsIn : List ℕ → Option Place → Type 0
+StandsIn s (Some p) = (p.first ≤ p.after) × (p.after ≤ length s)
+StandsIn s None = Unit {0}
 
 -- the scratch area then: only the bytes that are shown there change
 unfoldable pub scratch_after : View → List ℕ → List ℕ → List ℕ
@@ -55,7 +60,7 @@ view_within m k (Document a e) = pick (leb a e and leb e m) (Document a e) (Docu
 view_within m k (Scratch n) = pick (leb n k) (Scratch n) (Document 0 0)
 
 -- what a reader of a value with this raw place, which says these bytes, answers, and leaves of the scratch area
-pub record Shows (s : List ℕ) (place : Place) (bytes scratch : List ℕ) (view : View) (after : List ℕ) : Type 0 where
+pub record Shows (s : List ℕ) (place : Option Place) (bytes scratch : List ℕ) (view : View) (after : List ℕ) : Type 0 where
   pub answers : view ≡ view_in scratch s place bytes
   pub leaves : after ≡ scratch_after (view_in scratch s place bytes) bytes scratch
 

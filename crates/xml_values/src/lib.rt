@@ -1,21 +1,21 @@
 // The values of a tag's attributes, of documents that were read: nothing is judged again. And how a value is shown.
 #![tactic(auto)]
 
-ghost use Rattle.std.specs.Prelude.{◌≡◌, [], ◌∷◌, length};
+ghost use Rattle.std.specs.Prelude.{◌≡◌, [], ◌∷◌, length, ltb};
 ghost use Rattle.text_scan.specs.Choice.{◌and◌, not};
 ghost use Rattle.text_scan.specs.Lists.{every};
 ghost use Rattle.xml_names.specs.Names.{name_end};
 ghost use Rattle.xml_values.specs.Attributes.{name_after, is_bare, attribute_place, attribute_of, is_listed, has_other};
-ghost use Rattle.xml_values.specs.Views.{is_shown, view_in, said_in, plain_of, seen, InRange, view_within, Shows, as_read, ShowsAt};
+ghost use Rattle.xml_values.specs.Views.{is_shown, view_in, said_in, plain_of, StandsIn, seen, InRange, view_within, Shows, as_read, ShowsAt};
 
-use xml_attributes::TagPart;
+use xml_attributes::{Attribute, Attributes};
 use xml_reader::Reader;
 
 // Where a raw value stands: its first byte and the place after it.
 #[derive(Clone, Copy)]
-pub enum Place {
-    At(usize, usize),
-    Nothing,
+pub struct Place {
+    pub first: usize,
+    pub after: usize,
 }
 
 // How a value is shown: as a part of the document, or as so many bytes in front of the scratch area.
@@ -48,44 +48,37 @@ pub fn is_bare(s: &[u8], first: usize) -> bool
 }
 
 // The raw value of the attribute `name` of the tag that begins at `first`.
-pub fn attribute_place(s: &[u8], first: usize, name: &[u8]) -> Place
+pub fn attribute_place(s: &[u8], first: usize, name: &[u8]) -> Option<Place>
     ensures { result ≡ attribute_place s.now first name.now }
 {
-    let mut i = name_after(s, first);
-    while i < s.len() {
-        let TagPart::Read {
-            at: b,
-            name_end: n,
-            value: v,
-            value_end: e,
-        } = xml_attributes::part_at(s, i)
-        else {
-            return Place::Nothing;
-        };
-        if xml_names::is_named(s, b, n, name) {
-            if e - v <= Reader::VALUE {
-                return Place::At(v, e);
-            }
-            return Place::Nothing;
-        }
-        i = e + 1;
+    let at = name_after(s, first);
+    let found = Attributes { s, at }.find(|a| xml_names::is_named(s, a.at, a.name_end, name));
+    let Some(a) = found else {
+        return None;
+    };
+    if a.value_end - a.value <= Reader::VALUE {
+        return Some(Place {
+            first: a.value,
+            after: a.value_end,
+        });
     }
-    Place::Nothing
+    None
 }
 
-// Whether the attribute at b, whose name ends at n and whose value has bytes or not, is not empty and has none of three names.
-fn is_other(s: &[u8], b: usize, n: usize, valued: bool, x: &[u8], y: &[u8], z: &[u8]) -> bool
-    requires { n ≡ name_end s.now b }
-    ensures { result ≡ valued and not (is_listed (x.now ∷ y.now ∷ z.now ∷ []) s.now b) }
+// Whether an attribute is not empty and has none of three names.
+fn is_other(s: &[u8], a: Attribute, x: &[u8], y: &[u8], z: &[u8]) -> bool
+    requires { a.name_end ≡ name_end s.now a.at }
+    ensures { result ≡ ltb a.value a.value_end and not (is_listed (x.now ∷ y.now ∷ z.now ∷ []) s.now a.at) }
 {
+    let valued = a.value < a.value_end;
     if valued {
-        if xml_names::is_named(s, b, n, x) {
+        if xml_names::is_named(s, a.at, a.name_end, x) {
             return false;
         }
-        if xml_names::is_named(s, b, n, y) {
+        if xml_names::is_named(s, a.at, a.name_end, y) {
             return false;
         }
-        if xml_names::is_named(s, b, n, z) {
+        if xml_names::is_named(s, a.at, a.name_end, z) {
             return false;
         }
         return true;
@@ -97,53 +90,36 @@ fn is_other(s: &[u8], b: usize, n: usize, valued: bool, x: &[u8], y: &[u8], z: &
 pub fn has_other_attribute(s: &[u8], first: usize, x: &[u8], y: &[u8], z: &[u8]) -> bool
     ensures { result ≡ has_other s.now first (x.now ∷ y.now ∷ z.now ∷ []) }
 {
-    let mut i = name_after(s, first);
-    while i < s.len() {
-        let TagPart::Read {
-            at: b,
-            name_end: n,
-            value: v,
-            value_end: e,
-        } = xml_attributes::part_at(s, i)
-        else {
-            return false;
-        };
-        if is_other(s, b, n, v < e, x, y, z) {
-            return true;
-        }
-        i = e + 1;
-    }
-    false
+    let at = name_after(s, first);
+    Attributes { s, at }.any(|a| is_other(s, a, x, y, z))
 }
 
 // Whether raw bytes hold no reference and nothing that is dropped, so that they are shown as they stand.
 pub fn all_shown(raw: &[u8]) -> bool
     ensures { result ≡ every is_shown raw.now }
 {
-    let mut i = 0;
-    while i < raw.len() {
-        if raw[i] == b'&' {
-            return false;
-        }
-        if raw[i] == b'<' {
-            return false;
-        }
-        i += 1;
+    raw.iter().all(|b| *b != b'&' && *b != b'<')
+}
+
+// Where a value stands, if it says the bytes there; an absent one is an empty part.
+pub fn plain(s: &[u8], place: Option<Place>) -> Option<Place>
+    requires { StandsIn s.now place }
+    ensures { result ≡ plain_of s.now place }
+{
+    let Some(there) = place else {
+        return Some(Place { first: 0, after: 0 });
+    };
+    if all_shown(&s[there.first..there.after]) {
+        return Some(there);
     }
-    true
+    None
 }
 
 // Where the attribute `name` of the tag that begins at `first` stands, if it says the bytes there.
-pub fn plain_attribute(s: &[u8], first: usize, name: &[u8]) -> Place
+pub fn plain_attribute(s: &[u8], first: usize, name: &[u8]) -> Option<Place>
     ensures { result ≡ plain_of s.now (attribute_place s.now first name.now) }
 {
-    let Place::At(a, e) = attribute_place(s, first, name) else {
-        return Place::At(0, 0);
-    };
-    if all_shown(&s[a..e]) {
-        return Place::At(a, e);
-    }
-    Place::Nothing
+    plain(s, attribute_place(s, first, name))
 }
 
 // What the attribute `name` of the tag that begins at `first` says, shown as a part of s or in front of `out`, which has to have room for a value.
@@ -153,13 +129,13 @@ pub fn attribute_value(s: &[u8], first: usize, name: &[u8], out: &mut [u8]) -> V
     if out.len() < Reader::VALUE {
         return View::Document(0, 0);
     }
-    let Place::At(a, e) = attribute_place(s, first, name) else {
+    let Some(place) = attribute_place(s, first, name) else {
         return View::Document(0, 0);
     };
-    if all_shown(&s[a..e]) {
-        return View::Document(a, e);
+    if all_shown(&s[place.first..place.after]) {
+        return View::Document(place.first, place.after);
     }
-    View::Scratch(xml_references::decode(s, a, e, out))
+    View::Scratch(xml_references::decode(s, place.first, place.after, out))
 }
 
 // A part of the document lives at least as long as the scratch area: the same part, for as long as `at`.

@@ -1,8 +1,8 @@
 use Rattle.judge_both.proofs.Steps.{first_refused, both_checked}
 use Rattle.judge_both.proofs.check_both.Goals as goal
 
-pub returns-in-Refused : goal.returns-in-Refused
-returns-in-Refused c = search first_refused
+pub returns-in-Err : goal.returns-in-Err
+returns-in-Err c = search first_refused
 
-pub returns-in-Findings : goal.returns-in-Findings
-returns-in-Findings c = search both_checked
+pub returns-in-Ok : goal.returns-in-Ok
+returns-in-Ok c = search both_checked

@@ -10,8 +10,8 @@ merge_second-requires c =
     let k = c.keep.ensures in
     (search check_there, first_room _ _ _ _ k.1 _ k.0 (search not-false))
 
-pub returns-in-Refused : goal.returns-in-Refused
-returns-in-Refused c = search second_refused
+pub returns-in-Err : goal.returns-in-Err
+returns-in-Err c = search second_refused
 
-pub returns-in-Findings : goal.returns-in-Findings
-returns-in-Findings c = search second_merged
+pub returns-in-Ok : goal.returns-in-Ok
+returns-in-Ok c = search second_merged

@@ -10,8 +10,8 @@ slice_bounds-judge-end c = search under_room
 pub judge-requires : goal.judge-requires
 judge-requires c = (search under_nested, search under_few)
 
-pub returns-in-Refused : goal.returns-in-Refused
-returns-in-Refused c = search under_refused
+pub returns-in-Err : goal.returns-in-Err
+returns-in-Err c = search under_refused
 
-pub returns-in-Elements : goal.returns-in-Elements
-returns-in-Elements c = search under_judged
+pub returns-in-Ok : goal.returns-in-Ok
+returns-in-Ok c = search under_judged

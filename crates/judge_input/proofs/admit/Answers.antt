@@ -10,8 +10,8 @@ returns-then-tables-gt-TABLES c = search refused_2
 pub returns-then-scratch-lt-SCRATCH : goal.returns-then-scratch-lt-SCRATCH
 returns-then-scratch-lt-SCRATCH c = search refused_3
 
-pub returns-in-Refused : goal.returns-in-Refused
-returns-in-Refused c = search bad_file
+pub returns-in-Err : goal.returns-in-Err
+returns-in-Err c = search bad_file
 
-pub returns-in-Tables : goal.returns-in-Tables
-returns-in-Tables c = search good_file
+pub returns-in-Ok : goal.returns-in-Ok
+returns-in-Ok c = search good_file

@@ -1,5 +1,5 @@
 -- `judge_notes::fill_all` meets its contract.
-use Prim.Native.Nat.{◌-◌, ◌*◌, ◌≤◌}
+use Prim.Native.Nat.{◌*◌}
 use mathlib.Core.Path.{◌≡◌}
 use lib.ListN.{length}
 use Rattle.judge_paths.specs.Paths.{role_of}
@@ -7,7 +7,4 @@ use Rattle.judge_notes.proofs.Noted.{Stored}
 use Rattle.judge_notes.proofs.fill_all.Given as goal
 
 abbrev pub invariant-loop-k : goal.invariant-loop-k
-invariant-loop-k l = (l.k ≤ l.count) × (length l.notes ≡ length l.initial.notes) × Stored l.document l.elements l.kind l.initial.notes l.notes (4 * l.k) × (l.above ≡ role_of l.document l.elements l.kind l.parent)
-
-abbrev pub decreases-loop-k : goal.decreases-loop-k
-decreases-loop-k l = l.count - l.k
+invariant-loop-k l = (length l.notes ≡ length l.initial.notes) × Stored l.document l.elements l.kind l.initial.notes l.notes (4 * l.k) × (l.above ≡ role_of l.document l.elements l.kind l.parent)

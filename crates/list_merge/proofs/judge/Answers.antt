@@ -1,17 +1,17 @@
 use Rattle.list_merge.proofs.Answers.{judge_first, judge_second, judge_fault, judge_many, judge_findings}
 use Rattle.list_merge.proofs.judge.Goals as goal
 
-pub returns-in-At : goal.returns-in-At
-returns-in-At c = search judge_first
+pub returns-in-Some : goal.returns-in-Some
+returns-in-Some c = search judge_first
 
-pub returns-in-At-second : goal.returns-in-At-second
-returns-in-At-second c = search judge_second
+pub returns-in-Some-second : goal.returns-in-Some-second
+returns-in-Some-second c = search judge_second
 
-pub returns-then-room-n : goal.returns-then-room-n
-returns-then-room-n c = search judge_many
+pub returns-in-Ok : goal.returns-in-Ok
+returns-in-Ok c = search judge_many
 
-pub returns-in-Fault : goal.returns-in-Fault
-returns-in-Fault c = search judge_fault
+pub returns-in-Err : goal.returns-in-Err
+returns-in-Err c = search judge_fault
 
-pub returns-else-room-n : goal.returns-else-room-n
-returns-else-room-n c = search judge_findings
+pub returns-in-Ok-2 : goal.returns-in-Ok-2
+returns-in-Ok-2 c = search judge_findings

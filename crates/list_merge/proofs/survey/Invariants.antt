@@ -7,8 +7,8 @@ use Rattle.list_steps.proofs.Counts.{Counts}
 use Rattle.list_merge.specs.Next.{Place}
 use Rattle.list_merge.proofs.survey.Given as goal
 
-abbrev pub invariant-loop-at : goal.invariant-loop-at
-invariant-loop-at l = Counts (flat l.a) (flat l.b) l.i l.j l.n × Place l.a l.i × Place l.b l.j
+abbrev pub invariant-loop-first : goal.invariant-loop-first
+invariant-loop-first l = Counts (flat l.a) (flat l.b) l.i l.j l.n × Place l.a l.i × Place l.b l.j
 
-abbrev pub decreases-loop-at : goal.decreases-loop-at
-decreases-loop-at l = length (flat l.a) - l.i + (length (flat l.b) - l.j)
+abbrev pub decreases-loop-first : goal.decreases-loop-first
+decreases-loop-first l = length (flat l.a) - l.i + (length (flat l.b) - l.j)

@@ -1,17 +1,8 @@
-use Rattle.list_records.proofs.Keeping.{not_fitting, keep_none, keep_start, record_there, room_there, keep_next, keep_fits, keep_over}
+use Rattle.list_records.proofs.Keeping.{not_fitting, keep_none, keep_next, keep_fits, keep_over}
 use Rattle.list_records.proofs.keep.Goals as goal
 
 pub returns-then-not-fits : goal.returns-then-not-fits
 returns-then-not-fits c = (search not_fitting, search keep_none)
-
-pub loop-i-init : goal.loop-i-init
-loop-i-init c = search keep_start
-
-pub record_at-requires : goal.record_at-requires
-record_at-requires c = search record_there
-
-pub store-requires : goal.store-requires
-store-requires c = search room_there
 
 pub loop-i-preserved : goal.loop-i-preserved
 loop-i-preserved c = search keep_next

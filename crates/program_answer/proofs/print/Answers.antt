@@ -1,8 +1,8 @@
 use Rattle.program_answer.proofs.Answers.{findings_printed, refusal_printed}
 use Rattle.program_answer.proofs.print.Goals as goal
 
-pub returns-in-Findings : goal.returns-in-Findings
-returns-in-Findings c = search findings_printed
+pub returns-in-Ok : goal.returns-in-Ok
+returns-in-Ok c = search findings_printed
 
-pub returns-in-Refused : goal.returns-in-Refused
-returns-in-Refused c = search refusal_printed
+pub returns-in-Err : goal.returns-in-Err
+returns-in-Err c = search refusal_printed

@@ -1,10 +1,6 @@
 -- `program_vectors::put_rows` meets its contract.
-use Prim.Native.Nat.{◌-◌}
 use Rattle.program_vectors.proofs.Rooms.{Room}
 use Rattle.program_vectors.proofs.put_rows.Given as goal
 
 abbrev pub invariant-loop-k : goal.invariant-loop-k
 invariant-loop-k l = Room l.count l.initial.out l.out l.next l.k
-
-abbrev pub decreases-loop-k : goal.decreases-loop-k
-decreases-loop-k l = l.count - l.k

@@ -1,7 +1,6 @@
-use Prim.Native.Nat.{◌-◌}
 use borrow.Author.Rules.{rules}
 use Rattle.xml_names.specs.Names.{is_name_start, is_name_char}
-use Rattle.sort_compare.proofs.Bytes.{byte_least, byte_next, byte_next_too, byte_falls, compare_starts, compare_same, compare_goes, compare_less, compare_more}
+use Rattle.sort_compare.proofs.Bytes.{byte_least, byte_next, byte_next_too, byte_falls, compare_starts, compare_same, compare_goes, compare_told}
 use Rattle.sort_compare.proofs.compare_names.Goals as goal
 
 pub loop-x-init : goal.loop-x-init
@@ -22,8 +21,5 @@ loop-x-smaller c = search byte_falls
 pub loop-x-preserved : goal.loop-x-preserved
 loop-x-preserved c = search (byte_least is_name_char, compare_goes)
 
-pub returns-then-x-y : goal.returns-then-x-y
-returns-then-x-y c = search compare_less
-
 pub returns : goal.returns
-returns c = search compare_more
+returns c = search compare_told

@@ -1,13 +1,11 @@
 use mathlib.Core.Path.{refl}
 use Rattle.xml_names.specs.Names.{is_name_char}
-use Rattle.sort_compare.proofs.Bytes.{byte_past, byte_in_lem, byte_out}
+use Rattle.sort_compare.proofs.Bytes.{byte_in_lem, byte_out, byte_past}
 use Rattle.sort_compare.proofs.next_byte.Goals as goal
-
-pub returns-then-s-i : goal.returns-then-s-i
-returns-then-s-i c = search (byte_past is_name_char refl)
+use Rattle.sort_compare.proofs.next_byte.Goals.{else-i-s-via-then-i-s+else-is_name_char, else-i-s-via-else-i-s}
 
 pub returns-then-is_name_char : goal.returns-then-is_name_char
 returns-then-is_name_char c = search byte_in_lem
 
 pub returns : goal.returns
-returns c = search byte_out
+returns c = elim c.else-i-s.branch [ else-i-s-via-then-i-s+else-is_name_char w ↦ search byte_out | else-i-s-via-else-i-s w ↦ search (byte_past is_name_char refl) ]

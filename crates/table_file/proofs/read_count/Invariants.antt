@@ -5,8 +5,5 @@ use Rattle.xml_reader.specs.Limits.{rows_limit}
 use Rattle.table_file.proofs.Counts.{Counting}
 use Rattle.table_file.proofs.read_count.Given as goal
 
-abbrev pub invariant-loop-i : goal.invariant-loop-i
-invariant-loop-i l = Counting l.line l.v l.i × (l.v ≤ rows_limit)
-
-abbrev pub decreases-loop-i : goal.decreases-loop-i
-decreases-loop-i l = length l.line - l.i
+abbrev pub invariant-loop-b : goal.invariant-loop-b
+invariant-loop-b l = Counting l.line l.v l.b-index × (l.v ≤ rows_limit)

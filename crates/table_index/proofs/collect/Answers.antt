@@ -6,12 +6,13 @@ use Rattle.table_lines.proofs.Runs.{ahead, line_within, line_fits}
 use Rattle.table_index.proofs.RowKeys.{place_fits}
 use borrow.Author.Rules.{rules}
 use Rattle.table_index.proofs.collect.Goals as goal
+use Rattle.table_index.proofs.collect.Goals.{then-keeps, else-keeps}
 
-pub loop-left-init : goal.loop-left-init
-loop-left-init c = (omega arith, refl, search collect_starts)
+pub loop-init : goal.loop-init
+loop-init c = (omega arith, refl, search collect_starts)
 
 pub returns-then-s-i : goal.returns-then-s-i
-returns-then-s-i c = search (collect_past _ _ _ _ _ _ _ _ _ _ c.loop-left.invariant.2)
+returns-then-s-i c = search (collect_past _ _ _ _ _ _ _ _ _ _ c.loop.invariant.2)
 
 pub slice_bounds-keeps-count : goal.slice_bounds-keeps-count
 slice_bounds-keeps-count c = search ahead
@@ -28,14 +29,12 @@ overflow_cast-run c = search place_fits
 pub overflow_add-i : goal.overflow_add-i
 overflow_add-i c = search line_fits
 
-pub loop-left-preserved-then-keeps : goal.loop-left-preserved-then-keeps
-loop-left-preserved-then-keeps c = (omega arith, search length_kept, search (collect_puts _ _ _ _ _ _ _ _ _ _ c.loop-left.invariant.2))
-
-pub overflow_add-i-in-loop-left : goal.overflow_add-i-in-loop-left
-overflow_add-i-in-loop-left c = search line_fits
-
-pub loop-left-preserved : goal.loop-left-preserved
-loop-left-preserved c = (omega arith, search rules, search collect_passes)
+pub loop-preserved : goal.loop-preserved
+loop-preserved c =
+    elim c.if-keeps.branch [
+      | then-keeps w ↦ (omega arith, rw w.run-is (search length_kept), rw (w.run-is, w.n-is) (search (collect_puts _ _ _ _ _ _ _ _ _ _ c.loop.invariant.2)))
+      | else-keeps w ↦ (omega arith, rw w.run-is (search rules), rw (w.run-is, w.n-is) (search collect_passes))
+    ]
 
 pub returns : goal.returns
-returns c = search (collect_over _ _ _ _ _ _ _ _ _ _ c.loop-left.invariant.2)
+returns c = search (collect_over _ _ _ _ _ _ _ _ _ _ c.loop.invariant.2)

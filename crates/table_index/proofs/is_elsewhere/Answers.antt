@@ -7,6 +7,6 @@ pub returns-then-field_is : goal.returns-then-field_is
 unfolding keeps_row
 returns-then-field_is c = search but
 
-pub returns : goal.returns
+pub returns-else-field_is : goal.returns-else-field_is
 unfolding keeps_row
-returns c = search no_first
+returns-else-field_is c = search no_first

@@ -7,9 +7,5 @@ pub returns-in-Code : goal.returns-in-Code
 unfolding key_place
 returns-in-Code c = search rules
 
-pub returns-in-Name : goal.returns-in-Name
-unfolding key_place
-returns-in-Name c = search rules
-
 pub returns-in-KeyElsewhere : goal.returns-in-KeyElsewhere
 returns-in-KeyElsewhere c = search fourth

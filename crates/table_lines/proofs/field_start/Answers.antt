@@ -1,4 +1,3 @@
-use Prim.Native.Nat.{◌-◌}
 use Rattle.table_lines.proofs.Runs.{plain_less}
 use Rattle.table_lines.proofs.Fields.{here, past, at_tab, at_plain}
 use Rattle.table_lines.proofs.field_start.Goals as goal

@@ -1,8 +1,6 @@
 use borrow.Author.Rules.{rules}
-use Prim.Native.Nat.{◌-◌}
 use mathlib.Core.Path.{refl}
 use Rattle.text_scan.proofs.Lists.{run_ends}
-use Rattle.table_lines.specs.Lines.{other}
 use Rattle.table_lines.proofs.Runs.{until_here, until_on, line_plain, line_same, plain_least, plain_less}
 use Rattle.table_lines.proofs.Counting.{starts, at_return, at_tab_empty, at_tab, at_other, at_plain, end_empty, end_field, feed_empty, feed_field}
 use Rattle.table_lines.proofs.line_at.Goals as goal

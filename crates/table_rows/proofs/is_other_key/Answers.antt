@@ -1,15 +1,22 @@
-use Rattle.table_rows.specs.Rows.{is_other_key}
+use mathlib.Core.Path.{sym, ◌∙◌}
+use Rattle.text_scan.proofs.Tests.{never}
 use Rattle.table_rows.proofs.Tests.{no_first, no_second, all_but}
+use Rattle.table_rows.specs.Rows.{is_other_key}
+use Rattle.table_rows.proofs.is_other_key.Goals.{then-field_is, else-field_is}
 use Rattle.table_rows.proofs.is_other_key.Goals as goal
 
 pub returns-then-field_is-2 : goal.returns-then-field_is-2
 unfolding is_other_key
-returns-then-field_is-2 c = search all_but
+returns-then-field_is-2 c =
+    elim c.if-field_is.branch [
+      | then-field_is w ↦ let e = sym w.value-is ∙ c.if-field_is-2.true in search all_but
+      | else-field_is w ↦ never (sym (sym w.value-is ∙ c.if-field_is-2.true) ∙ w.if-field_is.false)
+    ]
 
-pub returns-then-field_is : goal.returns-then-field_is
+pub returns-else-field_is-2 : goal.returns-else-field_is-2
 unfolding is_other_key
-returns-then-field_is c = search no_second
-
-pub returns : goal.returns
-unfolding is_other_key
-returns c = search no_first
+returns-else-field_is-2 c =
+    elim c.if-field_is.branch [
+      | then-field_is w ↦ let e = sym w.value-is ∙ c.if-field_is-2.false in search no_second
+      | else-field_is w ↦ search no_first
+    ]

@@ -20,8 +20,8 @@ returns-then-is_asked c = search row_found
 pub overflow_add-i : goal.overflow_add-i
 overflow_add-i c = search line_fits
 
-pub loop-left-preserved : goal.loop-left-preserved
-loop-left-preserved c = search row_passed
+pub loop-preserved : goal.loop-preserved
+loop-preserved c = search row_passed
 
 pub returns : goal.returns
 returns c = search no_more

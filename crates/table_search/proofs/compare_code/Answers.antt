@@ -7,8 +7,8 @@ overflow_add-at c = search end_fits
 pub returns-in-Less : goal.returns-in-Less
 returns-in-Less c = search code_less
 
-pub returns-in-More : goal.returns-in-More
-returns-in-More c = search code_more
+pub returns-in-Greater : goal.returns-in-Greater
+returns-in-Greater c = search code_more
 
-pub returns-in-Same : goal.returns-in-Same
-returns-in-Same c = search code_same
+pub returns-in-Equal : goal.returns-in-Equal
+returns-in-Equal c = search code_same

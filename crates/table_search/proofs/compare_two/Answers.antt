@@ -7,8 +7,8 @@ overflow_add-at c = search end_fits
 pub returns-in-Less : goal.returns-in-Less
 returns-in-Less c = search two_less
 
-pub returns-in-More : goal.returns-in-More
-returns-in-More c = search two_more
+pub returns-in-Greater : goal.returns-in-Greater
+returns-in-Greater c = search two_more
 
-pub returns-in-Same : goal.returns-in-Same
-returns-in-Same c = search two_same
+pub returns-in-Equal : goal.returns-in-Equal
+returns-in-Equal c = search two_same

@@ -6,6 +6,6 @@ pub returns-then-field_is : goal.returns-then-field_is
 unfolding is_of_set
 returns-then-field_is c = search all_two
 
-pub returns : goal.returns
+pub returns-else-field_is : goal.returns-else-field_is
 unfolding is_of_set
-returns c = search no_first
+returns-else-field_is c = search no_first

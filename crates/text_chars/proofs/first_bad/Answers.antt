@@ -1,4 +1,3 @@
-use Prim.Native.Nat.{◌-◌}
 use borrow.Author.Rules.{rules}
 use Rattle.text_chars.proofs.Walked.{marked, starts, passes, bad, resumes, ends}
 use Rattle.text_chars.proofs.first_bad.Goals as goal

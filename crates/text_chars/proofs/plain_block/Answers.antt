@@ -1,4 +1,3 @@
-use Prim.Native.Nat.{◌-◌}
 use borrow.Author.Rules.{rules}
 use Rattle.text_chars.specs.Blocks.{plains}
 use Rattle.text_chars.proofs.Plain.{more, whole}
@@ -9,7 +8,7 @@ unfolding plains
 loop-k-init c = search rules
 
 pub loop-k-preserved : goal.loop-k-preserved
-loop-k-preserved c = (search rules, search (more, c.type_inv.s))
+loop-k-preserved c = search more
 
 pub returns : goal.returns
 returns c = search whole

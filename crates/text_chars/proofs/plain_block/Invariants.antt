@@ -1,11 +1,7 @@
 -- `text_chars::plain_block` meets its contract. The invariant: whether the k bytes from i on are plain.
 use mathlib.Core.Path.{◌≡◌}
-use Prim.Native.Nat.{◌-◌, ◌≤◌}
 use Rattle.text_chars.specs.Blocks.{plains}
 use Rattle.text_chars.proofs.plain_block.Given as goal
 
 abbrev pub invariant-loop-k : goal.invariant-loop-k
-invariant-loop-k l = (l.k ≤ 32) × (l.all ≡ plains l.s l.i l.k)
-
-abbrev pub decreases-loop-k : goal.decreases-loop-k
-decreases-loop-k l = 32 - l.k
+invariant-loop-k l = l.all ≡ plains l.s l.i l.k

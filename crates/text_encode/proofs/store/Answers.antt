@@ -1,5 +1,5 @@
-use Prim.Native.Nat.{◌-◌}
-use Rattle.text_encode.proofs.Stores.{storing_starts, place_fits, storing_goes, stored_count, stored_all}
+use mathlib.Core.Path.{refl}
+use Rattle.text_encode.proofs.Stores.{storing_starts, place_fits, storing_goes, stored_all}
 use Rattle.text_encode.proofs.store.Goals as goal
 
 pub loop-k-init : goal.loop-k-init
@@ -12,4 +12,4 @@ pub loop-k-preserved : goal.loop-k-preserved
 loop-k-preserved c = search storing_goes
 
 pub returns : goal.returns
-returns c = (search stored_count, search stored_all)
+returns c = (refl, search stored_all)

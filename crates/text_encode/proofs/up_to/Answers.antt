@@ -1,8 +1,6 @@
-use Rattle.text_encode.proofs.Stores.{among, behind}
+use mathlib.Core.Path.{◌∙◌}
+use Rattle.text_encode.proofs.Stores.{the_less}
 use Rattle.text_encode.proofs.up_to.Goals as goal
 
-pub returns-then-at-n : goal.returns-then-at-n
-returns-then-at-n c = search among
-
 pub returns : goal.returns
-returns c = search behind
+returns c = c.min.ensures ∙ the_less _ _

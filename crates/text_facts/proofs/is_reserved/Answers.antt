@@ -1,17 +1,12 @@
-use Rattle.text_facts.proofs.StringLaws.{one_of, one_of_more, one_of_last}
+use Rattle.std.proofs.Common.{rules, tests}
+use mathlib.Core.Path.{◌∙◌}
+use Rattle.std.proofs.lemmas.Iterator.{YieldsList-from_slice}
+use Rattle.std.proofs.lemmas.Iterator.Search.{any_from_yields_List}
+use Rattle.text_facts.specs.Strings.{equal, reserved}
+use Rattle.text_facts.proofs.StringLaws.{one_of_any}
 use Rattle.text_facts.proofs.is_reserved.Goals as goal
 
-pub returns-then-same : goal.returns-then-same
-returns-then-same c = search one_of
-
-pub returns-then-same-2 : goal.returns-then-same-2
-returns-then-same-2 c = search (one_of, one_of_more)
-
-pub returns-then-same-3 : goal.returns-then-same-3
-returns-then-same-3 c = search (one_of, one_of_more)
-
-pub returns-then-same-4 : goal.returns-then-same-4
-returns-then-same-4 c = search (one_of, one_of_more)
-
 pub returns : goal.returns
-returns c = search (one_of_more, one_of_last)
+returns c =
+    any_from_yields_List (equal c.args.s.now) _ _ _ c.any.ensures.ran (YieldsList-from_slice reserved cc) (λ x b q k. search (rules, tests))
+    ∙ one_of_any c.args.s.now reserved

@@ -1,15 +1,12 @@
-use Prim.Native.Nat.{◌-◌}
-use Rattle.text_scan.proofs.Lists.{every_ends}
+use Rattle.std.proofs.Common.{rules, tests}
+use Rattle.std.proofs.lemmas.Iterator.{YieldsList-from_slice}
+use Rattle.std.proofs.lemmas.Iterator.Search.{all_from_yields_List}
+use lib.Dec.{eqb}
+use Rattle.text_scan.specs.Choice.{not}
+use Rattle.text_scan.proofs.Lists.{every_told}
 use Rattle.text_facts.specs.Strings.{without_space}
-use Rattle.text_facts.proofs.StringLaws.{space_stops, space_goes}
 use Rattle.text_facts.proofs.without_space.Goals as goal
-
-pub returns-then-s-i-eq32 : goal.returns-then-s-i-eq32
-returns-then-s-i-eq32 c = search space_stops
-
-pub loop-i-preserved : goal.loop-i-preserved
-loop-i-preserved c = search space_goes
 
 pub returns : goal.returns
 unfolding without_space
-returns c = search every_ends
+returns c = every_told _ _ _ (all_from_yields_List (λ b. not (eqb b 32)) _ _ _ c.all.ensures.ran (YieldsList-from_slice c.args.s.now cc) (λ x b q k. search (rules, tests)))

@@ -1,11 +1,9 @@
-use Rattle.text_scan.proofs.Lists.{every_goes, every_stops, every_ends}
+use Rattle.std.proofs.Common.{rules, tests}
+use Rattle.std.proofs.lemmas.Iterator.{YieldsList-from_slice}
+use Rattle.std.proofs.lemmas.Iterator.Search.{all_from_yields_List}
+use Rattle.text_scan.specs.Bytes.{is_digit}
+use Rattle.text_scan.proofs.Lists.{every_told}
 use Rattle.text_scan.proofs.all_digits.Goals as goal
 
-pub loop-i-preserved : goal.loop-i-preserved
-loop-i-preserved c = search every_goes
-
-pub returns-in-loop-i : goal.returns-in-loop-i
-returns-in-loop-i c = search every_stops
-
 pub returns : goal.returns
-returns c = search every_ends
+returns c = every_told _ _ _ (all_from_yields_List is_digit _ _ _ c.all.ensures.ran (YieldsList-from_slice c.args.s.now cc) (λ x b q k. search (rules, tests)))

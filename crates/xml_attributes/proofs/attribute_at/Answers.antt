@@ -1,4 +1,4 @@
-use Rattle.xml_attributes.proofs.Attributes.{quote_before, quote_inside, no_name, no_value, no_quote, attribute_whole}
+use Rattle.xml_attributes.proofs.Pieces.{quote_before, quote_inside, no_name, no_value, no_quote, attribute_whole}
 use Rattle.xml_attributes.proofs.attribute_at.Goals as goal
 
 pub returns-then-n-at : goal.returns-then-n-at

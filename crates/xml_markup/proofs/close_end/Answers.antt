@@ -1,4 +1,3 @@
-use Prim.Native.Nat.{◌-◌}
 use Rattle.xml_markup.proofs.Instructions.{close_starts, close_unfinished, close_other, close_mark, close_found}
 use Rattle.xml_markup.proofs.close_end.Goals as goal
 

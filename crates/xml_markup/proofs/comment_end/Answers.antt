@@ -1,10 +1,9 @@
-use Prim.Native.Nat.{◌-◌}
 use Rattle.text_scan.proofs.Tests.{yes, no}
 use Rattle.xml_markup.proofs.Comments.{comment_opens, comment_fits, comment_none, comment_unfinished, comment_other, comment_hyphen, comment_closes, comment_malformed}
 use Rattle.xml_markup.proofs.comment_end.Goals as goal
 
-pub overflow_add-i : goal.overflow_add-i
-overflow_add-i c = search (comment_fits, yes)
+pub overflow_step-i : goal.overflow_step-i
+overflow_step-i c = search (comment_fits, yes)
 
 pub loop-i-init : goal.loop-i-init
 loop-i-init c = search (comment_opens, yes)

@@ -1,11 +1,6 @@
 -- `xml_markup::comment_end` meets its contract. The invariant: the comment's end is the end of the walk from i.
-use Prim.Native.Nat.{◌-◌}
-use lib.ListN.{length}
 use Rattle.xml_markup.proofs.Comments.{InComment}
 use Rattle.xml_markup.proofs.comment_end.Given as goal
 
 abbrev pub invariant-loop-i : goal.invariant-loop-i
 invariant-loop-i l = InComment l.s l.at l.i
-
-abbrev pub decreases-loop-i : goal.decreases-loop-i
-decreases-loop-i l = length l.s - l.i

@@ -7,5 +7,5 @@ returns-in-Start c = search is_start
 pub returns-in-Empty : goal.returns-in-Empty
 returns-in-Empty c = search is_empty
 
-pub returns-in-Refused : goal.returns-in-Refused
-returns-in-Refused c = search is_malformed
+pub returns-in-Err : goal.returns-in-Err
+returns-in-Err c = search is_malformed

@@ -1,4 +1,3 @@
-use Prim.Native.Nat.{◌-◌}
 use mathlib.Core.Path.{refl}
 use Rattle.xml_references.proofs.Ends.{jump_room, jump_falls}
 use Rattle.xml_references.proofs.Writes.{plain_fits, plain_wrote, kept_fits, kept_wrote, code_fits, code_wrote, end_least, end_count, end_wrote}

@@ -1,4 +1,3 @@
-use Prim.Native.Nat.{◌-◌}
 use Rattle.xml_references.proofs.Quiet.{past_block}
 use Rattle.xml_references.proofs.past_quiet.Goals as goal
 

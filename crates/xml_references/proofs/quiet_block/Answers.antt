@@ -1,4 +1,3 @@
-use Prim.Native.Nat.{◌-◌}
 use borrow.Author.Rules.{rules}
 use Rattle.xml_references.specs.Quiet.{quiet_for}
 use Rattle.xml_references.proofs.Quiet.{more, whole}
@@ -9,7 +8,7 @@ unfolding quiet_for
 loop-k-init c = search rules
 
 pub loop-k-preserved : goal.loop-k-preserved
-loop-k-preserved c = (search rules, search more)
+loop-k-preserved c = search more
 
 pub returns : goal.returns
 returns c = search whole

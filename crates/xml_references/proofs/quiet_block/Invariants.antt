@@ -1,11 +1,7 @@
 -- `xml_references::quiet_block` meets its contract. The invariant: whether the k bytes from i on are quiet.
 use mathlib.Core.Path.{◌≡◌}
-use Prim.Native.Nat.{◌-◌, ◌≤◌}
 use Rattle.xml_references.specs.Quiet.{quiet_for}
 use Rattle.xml_references.proofs.quiet_block.Given as goal
 
 abbrev pub invariant-loop-k : goal.invariant-loop-k
-invariant-loop-k l = (l.k ≤ 8) × (l.all ≡ quiet_for l.s l.i l.k)
-
-abbrev pub decreases-loop-k : goal.decreases-loop-k
-decreases-loop-k l = 8 - l.k
+invariant-loop-k l = l.all ≡ quiet_for l.s l.i l.k

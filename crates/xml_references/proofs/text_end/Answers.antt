@@ -1,4 +1,3 @@
-use Prim.Native.Nat.{◌-◌}
 use Rattle.xml_references.proofs.Ends.{text_start, text_out, text_less, text_closes, text_bracket, text_other, text_bad, text_past, jump_room, jump_falls}
 use Rattle.xml_references.proofs.text_end.Goals as goal
 

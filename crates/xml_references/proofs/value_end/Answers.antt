@@ -1,4 +1,3 @@
-use Prim.Native.Nat.{◌-◌}
 use Rattle.xml_references.proofs.Ends.{value_start_lem, value_empty, value_out, high_less, high_other, value_quote, value_less, value_other, value_bad, value_past, jump_room, jump_falls}
 use Rattle.xml_references.proofs.value_end.Goals as goal
 

@@ -1,28 +1,20 @@
-use mathlib.Core.Path.{refl}
+use mathlib.Core.Path.{refl, ap}
 use native.Mathlib.Omega.{arith}
-use borrow.Author.Rules.{rules}
-use Rattle.xml_attributes.proofs.Parts.{read_fits, read_falls}
-use Rattle.xml_attributes.proofs.Keeping.{keeps_out, keeps_end, keeps_more, length_more, count_more}
-use Rattle.xml_repeats.proofs.Collecting.{counts_out, counts_end, counts_more, place_within}
+use Rattle.xml_attributes.specs.Listed.{left}
+use Rattle.xml_repeats.proofs.Collecting.{collected_all, collected_within, collected_fits, collected_more}
 use Rattle.xml_repeats.proofs.collect.Goals as goal
 
-pub loop-i-init : goal.loop-i-init
-loop-i-init c = (omega arith, refl, refl, omega arith)
-
-pub returns-in_default : goal.returns-in_default
-returns-in_default c = search (counts_end, keeps_end)
+pub loop-a-init : goal.loop-a-init
+loop-a-init c = (tt, tt, (c.args.at, ap left c.into_iter-a-iterator.ensures.into_iter_gives, omega arith, refl, refl, omega arith))
 
 pub keep_place-requires : goal.keep_place-requires
-keep_place-requires c = search place_within
+keep_place-requires c = collected_within _ _ _ _ _ _ c.loop-a.invariant.2 _ _ c.in-Some.ensures.steps c.requires
 
-pub overflow_add-i : goal.overflow_add-i
-overflow_add-i c = search (read_fits, rules)
+pub overflow_add-count : goal.overflow_add-count
+overflow_add-count c = collected_fits _ _ _ _ _ _ c.loop-a.invariant.2 _ _ c.in-Some.ensures.steps c.requires
 
-pub loop-i-smaller : goal.loop-i-smaller
-loop-i-smaller c = search read_falls
-
-pub loop-i-preserved : goal.loop-i-preserved
-loop-i-preserved c = search (counts_more, keeps_more, length_more, count_more)
+pub loop-a-preserved : goal.loop-a-preserved
+loop-a-preserved c = (tt, tt, collected_more _ _ _ _ _ _ c.loop-a.invariant.2 _ _ c.in-Some.ensures.steps _ c.keep_place.ensures)
 
 pub returns : goal.returns
-returns c = search (counts_out, keeps_out)
+returns c = collected_all _ _ _ _ _ _ c.loop-a.invariant.2 c.in-None.ensures.steps.0

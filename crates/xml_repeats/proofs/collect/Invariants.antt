@@ -1,13 +1,9 @@
--- `xml_repeats::collect` meets its contract. The invariant: how many there are and what is kept, told from `at`, is that told from i.
-use Prim.Native.Nat.{◌-◌, ◌≤◌}
-use mathlib.Core.Path.{◌≡◌}
-use lib.ListN.{length}
-use Rattle.xml_attributes.proofs.Keeping.{Keeps}
-use Rattle.xml_repeats.proofs.Collecting.{Counts}
+-- `xml_repeats::collect` meets its contract. The invariant: how many there are and what is kept, told from `at`, is that told from where the iterator stands.
+use Rattle.xml_attributes.specs.Listed.{left}
+use Rattle.xml_repeats.proofs.Collecting.{Collected}
 use Rattle.xml_repeats.proofs.collect.Given as goal
 
-abbrev pub invariant-loop-i : goal.invariant-loop-i
-invariant-loop-i l = Counts l.s l.at l.i l.count × Keeps l.s l.at l.initial.starts l.i l.count l.starts × (length l.starts ≡ length l.initial.starts) × (l.count ≤ l.i)
-
-abbrev pub decreases-loop-i : goal.decreases-loop-i
-decreases-loop-i l = length l.s - l.i
+abbrev pub invariant-loop-a : goal.invariant-loop-a
+invariant-loop-a l =
+    (goal.iterator-loop-a).can_next l.a-iterator × (goal.iterator-loop-a).is_finite l.a-iterator
+    × Collected l.s l.at l.initial.starts l.count l.starts (left l.a-iterator)

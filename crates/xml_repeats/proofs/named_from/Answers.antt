@@ -1,22 +1,11 @@
-use borrow.Author.Rules.{rules}
-use Rattle.xml_attributes.proofs.Parts.{read_fits, read_falls}
-use Rattle.xml_attributes.proofs.Some.{chain_out, row_ended, row_found, row_next}
+use mathlib.Core.Path.{refl}
+use Rattle.std.proofs.Common.{rules, tests}
+use Rattle.xml_names.specs.Names.{name_is}
+use Rattle.xml_attributes.proofs.Listed.{any_answers}
 use Rattle.xml_repeats.proofs.named_from.Goals as goal
 
-pub returns-in_default : goal.returns-in_default
-returns-in_default c = search row_ended
-
-pub returns-then-name_is : goal.returns-then-name_is
-returns-then-name_is c = search row_found
-
-pub overflow_add-i : goal.overflow_add-i
-overflow_add-i c = search (read_fits, rules)
-
-pub loop-i-smaller : goal.loop-i-smaller
-loop-i-smaller c = search read_falls
-
-pub loop-i-preserved : goal.loop-i-preserved
-loop-i-preserved c = search row_next
-
 pub returns : goal.returns
-returns c = search chain_out
+returns c =
+    let s = c.args.s in
+    let t = c.args.t.now in
+    any_answers (record { s = s; at = c.args.at }) c.any.new.self (λ a. name_is t s.now a.at) (λ b _. name_is t s.now b) c.any.ensures.ran (λ x b q k. search (rules, tests)) (λ a h. refl)

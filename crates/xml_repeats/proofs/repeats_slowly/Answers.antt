@@ -1,34 +1,16 @@
-use borrow.Author.Rules.{rules}
-use Rattle.xml_attributes.proofs.Parts.{read_name_within, read_name_ahead, read_fits, read_falls}
-use Rattle.xml_attributes.proofs.Some.{chain_out, row_ended, repeat_found, repeat_next}
+use mathlib.Core.Path.{refl}
+use Prim.Native.Nat.{◌+◌}
+use Rattle.std.proofs.Common.{rules, tests}
+use Rattle.xml_attributes.specs.Chains.{items}
+use Rattle.xml_attributes.specs.Parts.{attributes}
+use Rattle.xml_attributes.proofs.Listed.{any_calls, any_answers}
+use Rattle.xml_attributes.proofs.Some.{named_again}
 use Rattle.xml_repeats.proofs.repeats_slowly.Goals as goal
 
-pub returns-in_default : goal.returns-in_default
-returns-in_default c = search row_ended
-
-pub slice_bounds-named_from-count : goal.slice_bounds-named_from-count
-slice_bounds-named_from-count c = search read_name_ahead
-
-pub slice_bounds-named_from-start : goal.slice_bounds-named_from-start
-slice_bounds-named_from-start c = search read_name_ahead
-
-pub slice_bounds-named_from-end : goal.slice_bounds-named_from-end
-slice_bounds-named_from-end c = search read_name_within
-
-pub overflow_add-e : goal.overflow_add-e
-overflow_add-e c = search (read_fits, rules)
-
-pub returns-then-named_from : goal.returns-then-named_from
-returns-then-named_from c = search repeat_found
-
-pub overflow_add-i : goal.overflow_add-i
-overflow_add-i c = search (read_fits, rules)
-
-pub loop-i-smaller : goal.loop-i-smaller
-loop-i-smaller c = search read_falls
-
-pub loop-i-preserved : goal.loop-i-preserved
-loop-i-preserved c = search repeat_next
+pub any-requires-clause-callable : goal.any-requires-clause-callable
+any-requires-clause-callable c = any_calls (record { s = c.args.s; at = c.args.at }) (λ x q k. search (rules, tests)) (λ x h. search rules)
 
 pub returns : goal.returns
-returns c = search chain_out
+returns c =
+    let s = c.args.s in
+    any_answers (record { s = s; at = c.args.at }) c.any.new.self (λ a. named_again s.now a.at (items (attributes s.now (a.value_end + 1)))) (named_again s.now) c.any.ensures.ran (λ x b q k. search (rules, tests)) (λ a h. refl)

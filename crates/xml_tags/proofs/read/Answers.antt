@@ -9,11 +9,11 @@ use Rattle.xml_tags.proofs.read.Goals as goal
 pub loop-i-init : goal.loop-i-init
 loop-i-init c = (refl, refl, refl, omega arith)
 
-pub overflow_sub-n : goal.overflow_sub-n
-overflow_sub-n c = search read_name_ahead
+pub overflow_sub-a : goal.overflow_sub-a
+overflow_sub-a c = search read_name_ahead
 
-pub overflow_sub-e : goal.overflow_sub-e
-overflow_sub-e c = search read_closed
+pub overflow_sub-a-in-Read : goal.overflow_sub-a-in-Read
+overflow_sub-a-in-Read c = search read_closed
 
 pub overflow_add-i : goal.overflow_add-i
 overflow_add-i c = search (read_fits, rules)

@@ -1,11 +1,11 @@
-use Rattle.xml_attributes.proofs.Some.{some_out, some_found, some_next}
+use Rattle.std.proofs.Common.{rules, tests, ◌∙◌}
+use Rattle.std.proofs.lemmas.Iterator.{YieldsList-from_slice}
+use Rattle.std.proofs.lemmas.Iterator.Search.{any_from_yields_List}
+use Rattle.xml_names.specs.Names.{name_is}
+use Rattle.xml_attributes.proofs.Some.{some_any}
 use Rattle.xml_tags.proofs.some_named.Goals as goal
 
-pub returns-then-name_is : goal.returns-then-name_is
-returns-then-name_is c = search some_found
-
-pub loop-i-preserved : goal.loop-i-preserved
-loop-i-preserved c = search some_next
-
 pub returns : goal.returns
-returns c = search some_out
+returns c =
+    any_from_yields_List (λ b. name_is c.args.t.now c.args.s.now b) _ _ _ c.any.ensures.ran (YieldsList-from_slice c.args.starts.now cc) (λ x b q k. search (rules, tests))
+    ∙ some_any _ c.args.starts.now

@@ -21,8 +21,8 @@ overflow_add-after c = search closes_fits
 pub returns-then-closes : goal.returns-then-closes
 returns-then-closes c = search tag_bare
 
-pub returns-then-is_refused : goal.returns-then-is_refused
-returns-then-is_refused c = search tag_malformed
+pub returns-then-is_err : goal.returns-then-is_err
+returns-then-is_err c = search tag_malformed
 
 pub returns-then-repeats_any : goal.returns-then-repeats_any
 returns-then-repeats_any c = search tag_repeats

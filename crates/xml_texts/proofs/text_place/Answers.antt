@@ -7,5 +7,5 @@ returns-in-Start c = search text_behind_lem
 pub returns-in-Empty : goal.returns-in-Empty
 returns-in-Empty c = search text_empty
 
-pub returns-in-Refused : goal.returns-in-Refused
-returns-in-Refused c = search text_malformed
+pub returns-in_default : goal.returns-in_default
+returns-in_default c = search text_malformed

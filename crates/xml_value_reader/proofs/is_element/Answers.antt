@@ -7,8 +7,8 @@ returns-then-first_bad-r c = search not_sound
 pub returns-in_default : goal.returns-in_default
 returns-in_default c = search no_content
 
-pub returns-then-is_tag : goal.returns-then-is_tag
-returns-then-is_tag c = search one_element
+pub returns-then-is_err : goal.returns-then-is_err
+returns-then-is_err c = search not_opened
 
 pub returns : goal.returns
-returns c = search not_opened
+returns c = search one_element

@@ -13,5 +13,5 @@ returns-in-Start c = search opens_start
 pub returns-in-Empty : goal.returns-in-Empty
 returns-in-Empty c = search opens_empty
 
-pub returns-in-Refused : goal.returns-in-Refused
-returns-in-Refused c = search opens_nothing
+pub returns-in_default : goal.returns-in_default
+returns-in_default c = search opens_nothing

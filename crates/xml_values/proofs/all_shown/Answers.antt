@@ -1,15 +1,11 @@
-use Rattle.text_scan.proofs.Lists.{every_ends}
-use Rattle.xml_values.proofs.Views.{shown_reference, shown_markup, shown_goes}
+use Rattle.std.proofs.Common.{rules, tests, ◌∙◌}
+use Rattle.std.proofs.lemmas.Iterator.{YieldsList-from_slice}
+use Rattle.std.proofs.lemmas.Iterator.Search.{all_from_yields_List}
+use Rattle.xml_values.specs.Views.{is_shown}
+use Rattle.xml_values.proofs.Views.{all_every}
 use Rattle.xml_values.proofs.all_shown.Goals as goal
 
-pub returns-then-raw-i-eq38 : goal.returns-then-raw-i-eq38
-returns-then-raw-i-eq38 c = search shown_reference
-
-pub returns-then-raw-i-eq60 : goal.returns-then-raw-i-eq60
-returns-then-raw-i-eq60 c = search shown_markup
-
-pub loop-i-preserved : goal.loop-i-preserved
-loop-i-preserved c = search shown_goes
-
 pub returns : goal.returns
-returns c = search every_ends
+returns c =
+    all_from_yields_List is_shown _ _ _ c.all.ensures.ran (YieldsList-from_slice c.args.raw.now cc) (λ x b q k. search (rules, tests))
+    ∙ all_every is_shown c.args.raw.now

@@ -1,34 +1,26 @@
-use borrow.Author.Rules.{rules}
-use Rattle.xml_attributes.proofs.Parts.{read_name, read_closed, read_fits, read_falls}
-use Rattle.xml_values.proofs.Attributes.{finds_start, finds_out, finds_ended, finds_next, finds_within, finds_long}
+use mathlib.Core.Path.{◌≡◌}
+use Rattle.std.proofs.Common.{rules, tests}
+use Rattle.std.specs.List.{find}
+use Rattle.xml_attributes.specs.Listed.{listed}
+use Rattle.xml_attributes.proofs.Listed.{find_calls, find_answers}
+use Rattle.xml_values.proofs.Attributes.{has_name, finds_none, finds_ahead, finds_within, finds_long}
 use Rattle.xml_values.proofs.attribute_place.Goals as goal
+use Rattle.xml_values.proofs.attribute_place.Goals.{After-find-found}
 
-pub loop-i-init : goal.loop-i-init
-loop-i-init c = search finds_start
+pub find-found-requires-clause-callable : goal.find-found-requires-clause-callable
+find-found-requires-clause-callable c = find_calls (record { s = c.args.s; at = c.name_after-at.result }) (λ x q k. search (rules, tests)) (λ x h. search rules)
+
+found : (c : After-find-found) → c.find-found.result ≡ find (has_name c.args.name.now c.args.s.now) (listed c.args.s.now c.name_after-at.result)
+found c = find_answers (record { s = c.args.s; at = c.name_after-at.result }) c.find-found.new.self (has_name c.args.name.now c.args.s.now) c.find-found.ensures.ran (λ x b q k. search (rules, tests))
 
 pub returns-in_default : goal.returns-in_default
-returns-in_default c = search finds_ended
+returns-in_default c = finds_none _ _ _ _ c.name_after-at.ensures _ (found (goal.at.returns-in_default c).After-find-found) c.in_default.is
 
-pub is_named-requires : goal.is_named-requires
-is_named-requires c = search read_name
+pub overflow_sub-a : goal.overflow_sub-a
+overflow_sub-a c = finds_ahead _ _ _ _ c.name_after-at.ensures _ (found (goal.at.overflow_sub-a c).After-find-found) _ c.in-Some.is
 
-pub overflow_sub-e : goal.overflow_sub-e
-overflow_sub-e c = search read_closed
-
-pub returns-then-e-v-le-VALUE : goal.returns-then-e-v-le-VALUE
-returns-then-e-v-le-VALUE c = search finds_within
-
-pub returns-then-is_named : goal.returns-then-is_named
-returns-then-is_named c = search finds_long
-
-pub overflow_add-i : goal.overflow_add-i
-overflow_add-i c = search (read_fits, rules)
-
-pub loop-i-smaller : goal.loop-i-smaller
-loop-i-smaller c = search read_falls
-
-pub loop-i-preserved : goal.loop-i-preserved
-loop-i-preserved c = search finds_next
+pub returns-then-a-le-VALUE : goal.returns-then-a-le-VALUE
+returns-then-a-le-VALUE c = finds_within _ _ _ _ c.name_after-at.ensures _ (found (goal.at.returns-then-a-le-VALUE c).After-find-found) _ c.in-Some.is c.if-a-le-VALUE.true
 
 pub returns : goal.returns
-returns c = search finds_out
+returns c = finds_long _ _ _ _ c.name_after-at.ensures _ (found (goal.at.returns c).After-find-found) _ c.in-Some.is c.if-a-le-VALUE.false

@@ -1,28 +1,16 @@
-use borrow.Author.Rules.{rules}
-use Rattle.xml_attributes.proofs.Parts.{read_name, read_fits, read_falls}
-use Rattle.xml_values.proofs.Attributes.{others_start, others_out, others_ended, others_found, others_next}
+use mathlib.Core.List.{[], ◌∷◌}
+use Rattle.std.proofs.Common.{rules, tests}
+use Rattle.xml_attributes.proofs.Listed.{any_calls, any_answers}
+use Rattle.xml_values.specs.Attributes.{is_other}
+use Rattle.xml_values.proofs.Attributes.{other, other_here, others_told}
 use Rattle.xml_values.proofs.has_other_attribute.Goals as goal
 
-pub loop-i-init : goal.loop-i-init
-loop-i-init c = search others_start
-
-pub returns-in_default : goal.returns-in_default
-returns-in_default c = search others_ended
-
-pub is_other-requires : goal.is_other-requires
-is_other-requires c = search read_name
-
-pub returns-then-is_other : goal.returns-then-is_other
-returns-then-is_other c = search others_found
-
-pub overflow_add-i : goal.overflow_add-i
-overflow_add-i c = search (read_fits, rules)
-
-pub loop-i-smaller : goal.loop-i-smaller
-loop-i-smaller c = search read_falls
-
-pub loop-i-preserved : goal.loop-i-preserved
-loop-i-preserved c = search others_next
+pub any-requires-clause-callable : goal.any-requires-clause-callable
+any-requires-clause-callable c = any_calls (record { s = c.args.s; at = c.name_after-at.result }) (λ x q k. search (rules, tests)) (λ x h. search rules)
 
 pub returns : goal.returns
-returns c = search others_out
+returns c =
+    let s = c.args.s in
+    let names = c.args.x.now ∷ c.args.y.now ∷ c.args.z.now ∷ [] in
+    others_told names s.now c.args.first c.name_after-at.result _ c.name_after-at.ensures
+    (any_answers (record { s = s; at = c.name_after-at.result }) c.any.new.self (other names s.now) (λ b _. is_other names s.now b) c.any.ensures.ran (λ x b q k. search (rules, tests)) (λ a h. other_here names s.now a h))

@@ -9,6 +9,3 @@ use Rattle.program_texts.proofs.number.put_last.Given as goal
 
 abbrev pub invariant-loop-i : goal.invariant-loop-i
 invariant-loop-i l = (length l.out ≡ length l.initial.out) × (l.i ≤ l.k) × (last_digits l.i l.rest ++ slice l.i l.k l.out ≡ last_digits l.k l.n)
-
-abbrev pub decreases-loop-i : goal.decreases-loop-i
-decreases-loop-i l = l.i

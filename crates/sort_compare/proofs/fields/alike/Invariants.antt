@@ -1,11 +1,6 @@
 -- `sort_compare::fields::alike` meets its contract.
 use Rattle.sort_compare.proofs.Parts.{Alike}
-use lib.ListN.{length}
-use Prim.Native.Nat.{◌-◌}
 use Rattle.sort_compare.proofs.fields.alike.Given as goal
 
 abbrev pub invariant-loop-k : goal.invariant-loop-k
 invariant-loop-k l = Alike l.x l.y l.k
-
-abbrev pub decreases-loop-k : goal.decreases-loop-k
-decreases-loop-k l = length l.x - l.k

@@ -1,11 +1,8 @@
 -- `sort_compare::fields::compare_value` meets its contract.
 use Rattle.sort_compare.proofs.Parts.{Comparing}
 use lib.ListN.{length}
-use Prim.Native.Nat.{◌+◌, ◌-◌, ◌≤◌}
+use Prim.Native.Nat.{◌≤◌}
 use Rattle.sort_compare.proofs.fields.compare_value.Given as goal
 
 abbrev pub invariant-loop-k : goal.invariant-loop-k
 invariant-loop-k l = (l.k ≤ length l.x) × Comparing l.x l.value l.any l.k
-
-abbrev pub decreases-loop-k : goal.decreases-loop-k
-decreases-loop-k l = length l.x + 1 - l.k

@@ -1,5 +1,4 @@
 use mathlib.Core.Path.{refl}
-use Prim.Native.Nat.{◌-◌}
 use native.Mathlib.Omega.{arith}
 use borrow.Author.Rules.{rules}
 use Rattle.sort_compare.specs.Units.{sharing}
@@ -15,9 +14,3 @@ shares_block-requires c = (search rules, search rules)
 
 pub loop-k-preserved : goal.loop-k-preserved
 loop-k-preserved c = (search rules, search block_joined)
-
-pub returns-in-loop-k : goal.returns-in-loop-k
-returns-in-loop-k c = (search rules, search rules)
-
-pub returns : goal.returns
-returns c = (search rules, search rules)

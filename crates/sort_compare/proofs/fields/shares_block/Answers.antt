@@ -1,4 +1,3 @@
-use Prim.Native.Nat.{◌-◌}
 use borrow.Author.Rules.{rules}
 use Rattle.sort_compare.specs.Units.{sharing}
 use Rattle.sort_compare.proofs.Sharing.{block_more, block_whole}

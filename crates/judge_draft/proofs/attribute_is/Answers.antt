@@ -1,5 +1,0 @@
-use Rattle.judge_draft.proofs.Values.{attribute_equal}
-use Rattle.judge_draft.proofs.attribute_is.Goals as goal
-
-pub returns : goal.returns
-returns c = search attribute_equal

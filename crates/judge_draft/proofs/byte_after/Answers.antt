@@ -1,5 +1,0 @@
-use Rattle.judge_draft.proofs.Values.{note_after}
-use Rattle.judge_draft.proofs.byte_after.Goals as goal
-
-pub returns : goal.returns
-returns c = search note_after

@@ -1,5 +1,0 @@
-use Rattle.judge_draft.proofs.Values.{note_parent}
-use Rattle.judge_draft.proofs.parent.Goals as goal
-
-pub returns : goal.returns
-returns c = search note_parent
