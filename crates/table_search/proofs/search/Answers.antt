@@ -1,18 +1,23 @@
-use mathlib.Core.Path.{◌∙◌}
-use Rattle.std.proofs.Common.{rules}
-use Rattle.std.proofs.lemmas.Fn.{always_returns_same}
-use Rattle.sort_compare.specs.Order.{order}
-use Rattle.sort_compare.specs.Keys.{key_at}
-use Rattle.table_index.specs.Indexed.{by_of, key_from}
-use Rattle.table_search.proofs.Searching.{sought}
+use Prim.Native.Nat.{◌+◌, ◌-◌, ◌/◌}
+use native.Mathlib.Omega.{arith}
+use Rattle.table_search.proofs.Searching.{search_starts, search_less, search_more, search_same, search_ends}
+use borrow.Author.Rules.{rules}
 use Rattle.table_search.proofs.search.Goals as goal
 
--- the closure tells a place by its key, and the keys rise
+pub loop-low-init : goal.loop-low-init
+loop-low-init c = (search rules, search search_starts)
+
+pub overflow_cast-run : goal.overflow_cast-run
+overflow_cast-run c = omega (arith, c.type_inv.run (c.loop-low.low + (c.loop-low.high - c.loop-low.low) / 2))
+
+pub loop-low-preserved-in-Less : goal.loop-low-preserved-in-Less
+loop-low-preserved-in-Less c = (search rules, search search_less)
+
+pub loop-low-preserved : goal.loop-low-preserved
+loop-low-preserved c = (omega arith, search search_more)
+
+pub returns-in-Equal : goal.returns-in-Equal
+returns-in-Equal c = search search_same
+
 pub returns : goal.returns
-returns c =
-    let a = c.args in
-    let key = key_at (by_of a.q) a.s.now in
-    let k = key_from a.q a.a.now a.b.now a.c.now in
-    let facts = c.binary_search_by.ensures in
-    let told = facts.position (λ y. order (key y) k) (always_returns_same _ _ _ (λ x r g called. (search rules, search rules))) in
-    c.is_ok.ensures.value ∙ sought key k a.run.now c.requires _ facts.bound told
+returns c = search search_ends
