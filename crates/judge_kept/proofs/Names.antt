@@ -1,24 +1,22 @@
 -- The names that a role lists, by the arms of the code; and which of them a name is.
 -- Assumes nothing.
 use Rattle.std.specs.Prelude.{Option, None}
-use mathlib.Core.Path.{◌≡◌, refl, sym, ◌∙◌}
+use mathlib.Core.Path.{◌≡◌, ◌∙◌}
 use mathlib.Core.Bool.{Bool, true, false}
-use mathlib.Core.List.{List, [], ◌∷◌}
+use mathlib.Core.List.{List, []}
 use mathlib.Core.Logic.{◌⊎◌, inl, inr}
 use Prim.Native.Nat.{ℕ, ◌<◌, ◌≤◌}
 use borrow.Author.Tests.{ne_eqb, lt-ltb, le-ltb}
-use lib.Dec.{eqb}
 use Rattle.text_scan.specs.Bytes.{text}
-use Rattle.text_scan.specs.Choice.{pick, ◌or◌}
 use Rattle.text_facts.specs.Strings.{equal}
 use Rattle.xml_values.specs.declared.Place.{Place}
 use Rattle.xml_values.specs.Views.{plain_of}
 use Rattle.xml_listed.specs.declared.Listed.{Listed}
 use Rattle.xml_listed.specs.Listed.{listed_in}
 use Rattle.xml_texts.specs.Texts.{text_place}
-use Rattle.judge_paths.specs.Roles.{Unknown, Unlisted, Root, Id, Code, Title, EffectiveTime, SetId, VersionNumber, OrganisationId, OrganisationName, PersonName, StreetAddressLine, City, State, PostalCode, Country, Telecom, OperationCode, is_known_role}
-use Rattle.judge_paths.specs.Attributes.{attribute_table, is_role, listed_names}
-use Rattle.judge_kept.specs.Kept.{Three, three, names_of, which_of, text_roles, text_kept, nothing_listed, listed_by, listed_kept}
+use Rattle.judge_paths.specs.Roles.{Root, Id, Code, Title, EffectiveTime, SetId, VersionNumber, OrganisationId, Telecom, OperationCode}
+use Rattle.judge_paths.specs.Attributes.{is_role, listed_names}
+use Rattle.judge_kept.specs.Kept.{Three, names_of, which_of, text_roles, text_kept, nothing_listed, listed_by, listed_kept}
 
 abbrev names : List ℕ → List ℕ → List ℕ → Three
 names x y z = record { x = x; y = y; z = z }
@@ -151,34 +149,3 @@ module _ (q : ℕ) where
     pub no_text : b ≡ false → None ≡ text_kept s f q
     unfolding text_kept
     no_text h = rw (← e, h)
-
-  abbrev Texts : Bool → Type 0
-  Texts b = b ≡ is_role q text_roles
-
-  pub text_1 : q ≡ OrganisationName → Texts true
-  text_1 e = rw e
-
-  pub text_2 : q ≡ PersonName → Texts true
-  text_2 e = rw e
-
-  pub text_3 : q ≡ StreetAddressLine → Texts true
-  text_3 e = rw e
-
-  pub text_4 : q ≡ City → Texts true
-  text_4 e = rw e
-
-  pub text_5 : q ≡ State → Texts true
-  text_5 e = rw e
-
-  pub text_6 : q ≡ PostalCode → Texts true
-  text_6 e = rw e
-
-  pub text_7 : (q ≡ OrganisationName → ⊥) → (q ≡ PersonName → ⊥) → (q ≡ StreetAddressLine → ⊥) → (q ≡ City → ⊥) → (q ≡ State → ⊥) → (q ≡ PostalCode → ⊥) → Texts (eqb q Country)
-  text_7 a b c d e f =
-      rw
-      (ne_eqb q OrganisationName a, ne_eqb q PersonName b, ne_eqb q StreetAddressLine c, ne_eqb q City d, ne_eqb q State e, ne_eqb q PostalCode f)
-      (go (eqb q Country))
-    where
-      go : (t : Bool) → t ≡ t or false
-      go true = refl
-      go false = refl

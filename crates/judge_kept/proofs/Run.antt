@@ -1,20 +1,19 @@
 -- The run of the notes, by the tests of the code: rows in front, what is kept behind them.
 -- Assumes nothing.
 use Rattle.std.specs.Prelude.{Option, None, Some}
-use mathlib.Core.Path.{◌≡◌, refl, sym, ◌∙◌, ap}
+use mathlib.Core.Path.{◌≡◌, sym, ◌∙◌, ap}
 use mathlib.Core.Bool.{Bool, true, false}
-use mathlib.Core.List.{List, []}
+use mathlib.Core.List.{List}
 use Prim.Native.Nat.{ℕ, ◌+◌, ◌-◌, ◌*◌, ◌/◌, ◌<◌, ◌≤◌}
 use native.Mathlib.Omega.{arith}
-use borrow.Author.Tests.{le-leb, lt-leb, lt-ltb, le-ltb, eq-eqb, ne_eqb, ltb-true, leb-true}
+use borrow.Author.Tests.{le-leb, lt-leb, lt-ltb, le-ltb, ltb-true, leb-true}
 use lib.Dec.{eqb, ltb, leb}
-use lib.ListN.{length, get_or, take, get_or-eq_default}
+use lib.ListN.{length, get_or, get_or-eq_default}
 use lib.Seq.{get_or-take, length-take-le}
 use Rattle.text_scan.specs.Choice.{pick, ◌and◌}
 use Rattle.text_scan.proofs.Tests.{pick_case, and_left, and_right}
-use Rattle.xml_reader.specs.Limits.{document_limit}
 use Rattle.xml_values.specs.declared.Place.{Place}
-use Rattle.judge_kept.specs.Kept.{note_width, kept_width, rows_in, kept_in, first_number, after_number, standing, text_held, which_of, role_in, names_of, no_other, attribute_held}
+use Rattle.judge_kept.specs.Kept.{note_width, kept_width, rows_in, kept_in, standing, text_held, which_of, role_in, names_of, no_other, attribute_held}
 use Rattle.xml_values.specs.Places.{from_to}
 
 -- ---- the rows
@@ -117,24 +116,3 @@ module _ (s w : List ℕ) (n : ℕ) (name : List ℕ) (q : ℕ) (eq : q ≡ get_
     pub not_held : b ≡ false → None ≡ attribute_held s w n name
     unfolding attribute_held
     not_held f = rw (← its_name, le-ltb k 3 h, ← eb, f)
-
--- ---- a place as numbers
-module _ (p : Option Place) (there : Place) (z : p ≡ Some there) where
-  pub no_first : there.after < there.first → 0 ≡ first_number p
-  no_first h = rw (z, lt-leb there.first there.after h)
-
-  pub no_after : there.after < there.first → 0 ≡ after_number p
-  no_after h = rw (z, lt-leb there.first there.after h)
-
-  module _ (h : there.first ≤ there.after) where
-    pub far_first : document_limit < there.after → 0 ≡ first_number p
-    far_first g = rw (z, le-leb there.first there.after h, lt-leb there.after document_limit g)
-
-    pub far_after : document_limit < there.after → 0 ≡ after_number p
-    far_after g = rw (z, le-leb there.first there.after h, lt-leb there.after document_limit g)
-
-    pub its_first : there.after ≤ document_limit → there.first ≡ first_number p
-    its_first g = rw (z, le-leb there.first there.after h, le-leb there.after document_limit g)
-
-    pub its_after : there.after ≤ document_limit → there.after + 1 ≡ after_number p
-    its_after g = rw (z, le-leb there.first there.after h, le-leb there.after document_limit g)

@@ -1,13 +1,13 @@
 -- What is stored one after the other is stored as one list.
 -- Assumes nothing.
 use Rattle.std.specs.Prelude.{Option}
-use mathlib.Core.Path.{◌≡◌, refl, sym, ◌∙◌, ap}
+use mathlib.Core.Path.{◌≡◌, refl, ◌∙◌, ap}
 use mathlib.Core.Bool.{Bool}
 use mathlib.Core.List.{List, [], ◌∷◌, ◌++◌}
 use Prim.Native.Nat.{ℕ, suc, ◌+◌, ◌≤◌}
 use native.Mathlib.Omega.{arith}
 use lib.ListN.{length, take, set}
-use lib.Seq.{sets, take-set-le, length-sets}
+use lib.Seq.{sets, take-set-le}
 use Rattle.xml_values.specs.declared.Place.{Place}
 use Rattle.xml_listed.specs.declared.Listed.{Listed}
 use Rattle.judge_kept.specs.Kept.{place_numbers, listed_numbers, flag_of, text_kept, listed_kept, kept_of}
@@ -24,10 +24,10 @@ take_sets [] w n at h = refl
 take_sets (x ∷ xs) w n at h = take_sets xs (set w at x) n (suc at) (omega arith) ∙ take-set-le n w at x h
 
 -- two numbers, by two stores
-pub two_stored : (w : List ℕ) (at a b x y : ℕ) → a ≡ x → b ≡ y → set (set w at a) (at + 1) b ≡ sets w at (x ∷ y ∷ [])
-two_stored w at a b x y e f =
+pub two_stored : (w : List ℕ) (at : ℕ) (r : ℕ × ℕ) (x y : ℕ) → r ≡ (x, y) → set (set w at r.0) (at + 1) r.1 ≡ sets w at (x ∷ y ∷ [])
+two_stored w at r x y e =
     let z : suc at ≡ at + 1 = omega arith in
-    rw (z, e, f)
+    rw (z, e)
 
 -- two lists
 pub both_stored : (xs ys w : List ℕ) (at k : ℕ) (w1 : List ℕ) → w1 ≡ sets w at xs → k ≡ at + length xs → (w2 : List ℕ) → w2 ≡ sets w1 k ys → w2 ≡ sets w at (xs ++ ys)

@@ -1,19 +1,17 @@
 -- What is held of an element whose numbers were kept is what the document says.
 -- Assumes nothing.
 use Rattle.std.specs.Prelude.{Option, None, Some}
-use mathlib.Core.Path.{◌≡◌, refl, sym, ◌∙◌, ap}
+use mathlib.Core.Path.{◌≡◌, refl, sym, ◌∙◌}
 use mathlib.Core.Bool.{Bool, true, false}
-use mathlib.Core.List.{List, [], ◌∷◌, ◌++◌}
-use Prim.Native.Nat.{ℕ, ◌+◌, ◌-◌, ◌*◌, ◌<◌, ◌≤◌}
+use mathlib.Core.List.{List, [], ◌∷◌}
+use Prim.Native.Nat.{ℕ, ◌+◌, ◌-◌, ◌*◌, ◌<◌}
 use native.Mathlib.Omega.{arith}
-use borrow.Author.Tests.{ltb-true, eqb-true}
 use lib.Dec.{eqb, ltb, leb}
 use lib.ListN.{length, get_or}
-use Rattle.text_scan.specs.Choice.{pick, ◌or◌, ◌and◌}
+use Rattle.text_scan.specs.Choice.{pick, ◌and◌}
 use Rattle.text_scan.proofs.Tests.{never, pick_case}
 use Rattle.text_facts.specs.Strings.{equal, is_one_of}
 use Rattle.text_facts.proofs.StringLaws.{equal_is}
-use Rattle.xml_reader.specs.Limits.{document_limit}
 use Rattle.xml_references.specs.Decoded.{part}
 use Rattle.xml_values.specs.declared.Place.{Place}
 use Rattle.xml_values.specs.Attributes.{attribute_place, attribute_of, has_other}
@@ -27,7 +25,7 @@ use Rattle.xml_texts.specs.Texts.{text_place, text_of}
 use Rattle.xml_texts.proofs.Texts.{text_says}
 use Rattle.judge_paths.specs.Roles.{is_known_role}
 use Rattle.judge_paths.specs.Attributes.{Lists, attribute_table, is_role, listed_names}
-use Rattle.judge_kept.specs.Kept.{kept_width, rows_in, kept_in, is_kept, first_number, after_number, text_roles, text_kept, Three, three, names_of, nothing_listed, listed_by, listed_kept, flag_of, listed_numbers, place_numbers, kept_of, standing, text_held, which_of, role_in, first_in, no_other, attribute_held, held_or, value_in, words_in, other_in}
+use Rattle.judge_kept.specs.Kept.{kept_width, kept_in, is_kept, first_number, after_number, text_roles, text_kept, Three, three, names_of, nothing_listed, listed_by, listed_kept, flag_of, kept_of, standing, text_held, which_of, role_in, first_in, no_other, attribute_held, held_or, value_in, words_in, other_in}
 use Rattle.xml_values.specs.Places.{from_to}
 
 -- ---- a place in numbers: it stands as it stood, or is not kept

@@ -47,15 +47,14 @@ fn place_at(document: &[u8], notes: &[u32], n: usize, i: usize) -> Option<Place>
 {
     let a = kept_number(notes, n, i);
     let f = kept_number(notes, n, i + 1);
-    if a < f {
-        if f - 1 <= document.len() {
-            return Some(Place {
-                first: a,
-                after: f - 1,
-            });
-        }
+    if a < f && f - 1 <= document.len() {
+        Some(Place {
+            first: a,
+            after: f - 1,
+        })
+    } else {
+        None
     }
-    None
 }
 
 // Where the text of element n stands, if that is kept.
@@ -124,25 +123,16 @@ pub fn attribute_held(document: &[u8], notes: &[u32], n: usize, name: &[u8]) -> 
 fn has_text(number: u32) -> bool
     ensures { result ≡ is_role number text_roles }
 {
-    if number == role::ORGANISATION_NAME {
-        return true;
-    }
-    if number == role::PERSON_NAME {
-        return true;
-    }
-    if number == role::STREET_ADDRESS_LINE {
-        return true;
-    }
-    if number == role::CITY {
-        return true;
-    }
-    if number == role::STATE {
-        return true;
-    }
-    if number == role::POSTAL_CODE {
-        return true;
-    }
-    number == role::COUNTRY
+    matches!(
+        number,
+        role::ORGANISATION_NAME
+            | role::PERSON_NAME
+            | role::STREET_ADDRESS_LINE
+            | role::CITY
+            | role::STATE
+            | role::POSTAL_CODE
+            | role::COUNTRY
+    )
 }
 
 // The text of the element that begins at `first`, where a procedure asks for it.
@@ -200,32 +190,15 @@ fn listed_of(document: &[u8], first: usize, role: u32) -> Listed
 }
 
 // A place as two numbers: its first byte, and one more than the place after it.
-fn first_number(place: Option<Place>) -> u32
-    ensures { result ≡ first_number place }
+fn numbers(place: Option<Place>) -> (u32, u32)
+    ensures { result ≡ (first_number place, after_number place) }
 {
-    let Some(Place { first: a, after: e }) = place else {
-        return 0;
-    };
-    if a <= e {
-        if e <= Reader::DOCUMENT {
-            return a as u32;
+    match place {
+        Some(Place { first, after }) if first <= after && after <= Reader::DOCUMENT => {
+            (first as u32, (after + 1) as u32)
         }
+        _ => (0, 0),
     }
-    0
-}
-
-fn after_number(place: Option<Place>) -> u32
-    ensures { result ≡ after_number place }
-{
-    let Some(Place { first: a, after: e }) = place else {
-        return 0;
-    };
-    if a <= e {
-        if e <= Reader::DOCUMENT {
-            return (e + 1) as u32;
-        }
-    }
-    0
 }
 
 // Stores a place.
@@ -233,8 +206,9 @@ fn put_place(place: Option<Place>, notes: &mut [u32], at: usize)
     requires { at + 2 ≤ length notes.old }
     ensures { notes.new ≡ sets notes.old at (place_numbers place) }
 {
-    notes[at] = first_number(place);
-    notes[at + 1] = after_number(place);
+    let (first, after) = numbers(place);
+    notes[at] = first;
+    notes[at + 1] = after;
 }
 
 // Whether there are no others, as a number.
@@ -269,11 +243,8 @@ fn put_listed(l: Listed, notes: &mut [u32], at: usize)
     requires { at + 7 ≤ length notes.old }
     ensures { notes.new ≡ sets notes.old at (listed_numbers l) }
 {
-    let x = l.x;
-    let y = l.y;
-    put_two(x, y, notes, at);
-    let z = l.z;
-    put_last(z, l.other, notes, at + 4);
+    put_two(l.x, l.y, notes, at);
+    put_last(l.z, l.other, notes, at + 4);
 }
 
 // Stores what is kept of the element that begins at `first` and has this role.

@@ -64,7 +64,7 @@ fn compare_asked(q: Lookup, s: &[u8], at: usize, a: &[u8], b: &[u8], c: &[u8]) -
 }
 
 // Whether one of the places, which are in order, is that of a row with the values that are asked for. It stops at the first hit: std's `binary_search_by`,
-// which goes on, made a check of 400 establishments take a twentieth more.
+// which goes on, made a check of 400 establishments take a sixteenth more.
 fn search(q: Lookup, s: &[u8], run: &[u32], a: &[u8], b: &[u8], c: &[u8]) -> bool
     requires { rising (key_at (by_of q) s.now) run.now ≡ true }
     ensures { result ≡ some (is_key_of q s.now (key_from q a.now b.now c.now)) run.now }
