@@ -1,3 +1,4 @@
+pub mod Copying
 pub mod Counting
 pub mod Merging
 pub mod Placing

@@ -37,6 +37,16 @@ fn merge(by: By, s: &[u8], left: &[u32], a: &mut [u32])
     }
 }
 
+// Copies one by one: std's `copy_from_slice` is the C library's `memmove`, which the archive for C needs for nothing else.
+fn copy(from: &[u32], to: &mut [u32])
+    requires { length from.now ≡ length to.old }
+    ensures { to.new ≡ from.now }
+{
+    for (i, x) in from.iter().enumerate() {
+        to[i] = *x;
+    }
+}
+
 // Merges the first h positions of `a`, which rise, with the others, which rise too. Where the others only go on, nothing is moved: rows that come in
 // order are sorted with one comparison each.
 fn merge_halves(by: By, s: &[u8], a: &mut [u32], h: usize, room: &mut [u32])
@@ -47,7 +57,7 @@ fn merge_halves(by: By, s: &[u8], a: &mut [u32], h: usize, room: &mut [u32])
         return;
     }
     let left = &mut room[..h];
-    left.copy_from_slice(&a[..h]);
+    copy(&a[..h], left);
     merge(by, s, left, a);
 }
 
