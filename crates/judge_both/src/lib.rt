@@ -6,6 +6,7 @@ ghost use Rattle.list_findings.specs.Findings.{width};
 ghost use Rattle.list_records.specs.Kept.{kept_in};
 ghost use Rattle.judge_both.specs.Both.{merge_second, check_second, both_of, BothLeft};
 
+use judge_findings::Answer;
 use list_findings::Finding;
 use refusals::{Reason, Refusal};
 
@@ -16,7 +17,7 @@ fn merge_second(
     records: &mut [Finding],
     n: usize,
     out: &mut [u32],
-) -> Result<usize, Refusal>
+) -> Answer
     requires { (m * width ≤ length list.now) × (n ≤ length records.old) }
     ensures { (result ≡ (merge_second list.now m records.old n out.old).answer) × (records.new ≡ kept_in list.now m records.old n) × (out.new ≡ (merge_second list.now m records.old n out.old).list) }
 {
@@ -39,7 +40,7 @@ fn check_second(
     n: usize,
     records: &mut [Finding],
     out: &mut [u32],
-) -> Result<usize, Refusal>
+) -> Answer
     ensures { BothLeft (check_second document.now other.now scratch.old elements.old list.old n records.old out.old) result scratch.new elements.new list.new records.new out.new }
 {
     if !list_records::keep(list, n, records, 0) {
@@ -64,7 +65,7 @@ pub fn check_both(
     list: &mut [u32],
     records: &mut [Finding],
     out: &mut [u32],
-) -> Result<usize, Refusal>
+) -> Answer
     ensures { BothLeft (both_of document.now one.now other.now scratch.old elements.old list.old records.old out.old) result scratch.new elements.new list.new records.new out.new }
 {
     match judge_check::check(document, one, scratch, elements, list) {

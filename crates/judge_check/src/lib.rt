@@ -8,8 +8,8 @@ ghost use Rattle.judge_input.specs.Input.{section_tables};
 ghost use Rattle.judge_check.specs.Check.{after_reading, check_of, CheckLeft};
 
 use judge_document::judge;
+use judge_findings::Answer;
 use judge_input::Sections;
-use refusals::Refusal;
 
 // The findings under tables that were accepted: reads the document, and clears the scratch area once it is not refused.
 fn check_under(
@@ -19,7 +19,7 @@ fn check_under(
     scratch: &mut [u8],
     elements: &mut [u32],
     list: &mut [u32],
-) -> Result<usize, Refusal>
+) -> Answer
     requires { scratch_limit ≤ length scratch.old }
     ensures { CheckLeft (after_reading document.now (section_tables tables.now sections) scratch.old elements.old list.old (elements_of document.now)) result scratch.new elements.new list.new }
 {
@@ -39,7 +39,7 @@ pub fn check(
     scratch: &mut [u8],
     elements: &mut [u32],
     list: &mut [u32],
-) -> Result<usize, Refusal>
+) -> Answer
     ensures { CheckLeft (check_of document.now tables.now scratch.old elements.old list.old) result scratch.new elements.new list.new }
 {
     match judge_input::admit(document, tables, scratch.len()) {

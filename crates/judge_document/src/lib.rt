@@ -13,9 +13,9 @@ ghost use Rattle.judge_document.specs.Typed.{few, places_for};
 
 use judge_answers::Places;
 use judge_draft::Draft;
+use judge_findings::Answer;
 use judge_input::Sections;
 use judge_paths::DocumentType;
-use refusals::Refusal;
 use xml_reader::Reader;
 
 // The elements of a small document: a room has to be cleared, so these have a small one.
@@ -30,7 +30,7 @@ fn judge_typed(
     notes: &mut [u32],
     marks: &mut [u64],
     list: &mut [u32],
-) -> Result<usize, Refusal>
+) -> Answer
     requires { Nested elements.now (length elements.now / 4) × (4 * (length elements.now / 4) ≤ length notes.old) × (length elements.now / 4 ≤ length marks.old) × (length marks.old ≤ elements_limit) }
     ensures { FindingsLeft (findings_of (draft_as places.kind document.now elements.now) (tables_at tables.now places)) list.old result list.new }
 {
@@ -71,7 +71,7 @@ fn judge_within(
     notes: &mut [u32],
     marks: &mut [u64],
     list: &mut [u32],
-) -> Result<usize, Refusal>
+) -> Answer
     requires { Nested elements.now (length elements.now / 4) × (4 * (length elements.now / 4) ≤ length notes.old) × (length elements.now / 4 ≤ length marks.old) × (length marks.old ≤ elements_limit) }
     ensures { FindingsLeft (findings_of (draft_of document.now elements.now) (section_tables tables.now sections)) list.old result list.new }
 {
@@ -94,7 +94,7 @@ fn judge_small(
     tables: &[u8],
     sections: Sections,
     list: &mut [u32],
-) -> Result<usize, Refusal>
+) -> Answer
     requires { Nested elements.now (length elements.now / 4) × (length elements.now / 4 ≤ few) }
     ensures { FindingsLeft (findings_of (draft_of document.now elements.now) (section_tables tables.now sections)) list.old result list.new }
 {
@@ -112,7 +112,7 @@ fn judge_large(
     tables: &[u8],
     sections: Sections,
     list: &mut [u32],
-) -> Result<usize, Refusal>
+) -> Answer
     requires { Nested elements.now (length elements.now / 4) × (length elements.now / 4 ≤ elements_limit) }
     ensures { FindingsLeft (findings_of (draft_of document.now elements.now) (section_tables tables.now sections)) list.old result list.new }
 {
@@ -130,7 +130,7 @@ pub fn judge(
     tables: &[u8],
     sections: Sections,
     list: &mut [u32],
-) -> Result<usize, Refusal>
+) -> Answer
     requires { Nested elements.now (length elements.now / 4) × (length elements.now / 4 ≤ elements_limit) }
     ensures { FindingsLeft (findings_of (draft_of document.now elements.now) (section_tables tables.now sections)) list.old result list.new }
 {

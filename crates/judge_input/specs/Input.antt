@@ -1,4 +1,4 @@
--- What is handed in (document 01, "BadLine numbers"): refusals 1 to 4 in their order, or the sections of the tables.
+-- What is handed in (document 01, "Refusal numbers"): refusals 1 to 4 in their order, or the sections of the tables.
 -- Assumes nothing.
 use Rattle.std.specs.Prelude.{ℕ, Result, Ok, Err, List, ltb, length}
 use Rattle.refusals.specs.declared.Reason.TheVariants.{LongDocument, LongTables, ShortScratch, BadTables}

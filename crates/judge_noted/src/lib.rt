@@ -13,8 +13,8 @@ ghost use Rattle.judge_findings.specs.Room.{FindingsLeft};
 
 use judge_answers::{Places, SIZE};
 use judge_draft::Draft;
+use judge_findings::Answer;
 use judge_header::Header;
-use refusals::Refusal;
 
 // Marks each element, and answers by the marks.
 fn judge_served(
@@ -25,7 +25,7 @@ fn judge_served(
     index: &[u32],
     marks: &mut [u64],
     list: &mut [u32],
-) -> Result<usize, Refusal>
+) -> Answer
     requires { (header ≡ header_of (lent draft)) × (length draft.notes.now / 4 ≤ length marks.old) × (length marks.old ≤ elements_limit) × Served (lent draft) tables.now places index.now }
     ensures { FindingsLeft (findings_of (lent draft.entry) (tables_at tables.now places)) list.old result list.new }
 {
@@ -42,7 +42,7 @@ fn judge_by(
     index: &mut [u32],
     marks: &mut [u64],
     list: &mut [u32],
-) -> Result<usize, Refusal>
+) -> Answer
     requires { (header ≡ header_of (lent draft)) × (length draft.notes.now / 4 ≤ length marks.old) × (length marks.old ≤ elements_limit) × (3 * room ≤ length index.old) × Sized tables.now places }
     ensures { FindingsLeft (findings_of (lent draft.entry) (tables_at tables.now places)) list.old result list.new }
 {
@@ -61,7 +61,7 @@ fn judge_indexed(
     places: Places,
     marks: &mut [u64],
     list: &mut [u32],
-) -> Result<usize, Refusal>
+) -> Answer
     requires { (header ≡ header_of (lent draft)) × (length draft.notes.now / 4 ≤ length marks.old) × (length marks.old ≤ elements_limit) × Sized tables.now places }
     ensures { FindingsLeft (findings_of (lent draft.entry) (tables_at tables.now places)) list.old result list.new }
 {
@@ -76,7 +76,7 @@ pub fn judge(
     places: Places,
     marks: &mut [u64],
     list: &mut [u32],
-) -> Result<usize, Refusal>
+) -> Answer
     requires { (length draft.notes.now / 4 ≤ length marks.old) × (length marks.old ≤ elements_limit) }
     ensures { FindingsLeft (findings_of (lent draft.entry) (tables_at tables.now places)) list.old result list.new }
 {

@@ -49,7 +49,7 @@ use Rattle.xml_texts.specs.Texts.{content_of, content_at, content_step, step_at,
 use Rattle.xml_texts.specs.Texts as texts
 use Rattle.xml_values.specs.declared.View.{View}
 use Rattle.xml_values.specs.declared.View.TheVariants.{Scratch}
-use Rattle.xml_values.specs.Views.{is_shown, said_in, plain_of, StandsIn, seen, InRange, Shows}
+use Rattle.xml_values.specs.Views.{is_shown, said_in, plain_of, seen, InRange, Shows}
 use Rattle.xml_values.proofs.Views.{shown_plain, Says, AsItStands, plain_stands, shows_front, in_range, seen_is}
 use Rattle.xml_values.specs.Places.{from_to}
 
@@ -310,10 +310,6 @@ module _ (s : List ℕ) (first : ℕ) (p : Option Place) (ep : p ≡ text_place 
 
   pub text_room : (out : List ℕ) → value_limit ≤ length out → there.after - there.first ≤ length out
   text_room out h = omega (arith, stood.0)
-
-pub text_stands : (s : List ℕ) (first : ℕ) (p : Option Place) → p ≡ text_place s first → StandsIn s p
-text_stands s first (Some p) ep = (text_ahead s first (Some p) ep p refl, text_inside s first (Some p) ep p refl)
-text_stands s first None ep = tt
 
 -- ---- the loop that stores: what is left to say at i, stored from n on, makes what the whole makes
 abbrev pub Stored : List ℕ → ℕ → ℕ → List ℕ → List ℕ → ℕ → ℕ → Type 0

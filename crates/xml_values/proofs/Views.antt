@@ -5,13 +5,15 @@ use mathlib.Core.Path.{◌≡◌, refl, sym, ◌∙◌, ap}
 use mathlib.Core.Bool.{Bool, true, false, ◌&&◌}
 use Rattle.std.specs.List.{list_all}
 use mathlib.Core.List.{List, [], ◌∷◌, ◌++◌}
-use Prim.Native.Nat.{ℕ, ◌+◌, ◌-◌, ◌<◌, ◌≤◌}
+use Prim.Native.Nat.{ℕ, ◌+◌, ◌-◌, ◌<◌, ◌≤◌, min}
 use Prim.Native.Char.{code}
 use native.Mathlib.Omega.{arith}
 use borrow.Author.Tests.{le-leb, lt-leb, leb-true}
 use lib.Dec.{eqb, leb}
 use lib.ListN.{length, take, drop, length-append, length-drop}
 use lib.Seq.{sets, take_at, length-take-le}
+use native.Mathlib.Nat.{min-eq_left}
+use Rattle.std.proofs.lemmas.List.{take_min}
 use denote.Ref.{Bor}
 use Rattle.text_scan.specs.Choice.{pick, ◌and◌, not}
 use Rattle.text_scan.specs.Lists.{every}
@@ -25,7 +27,7 @@ use Rattle.xml_values.specs.declared.Place.{Place}
 use Rattle.xml_values.specs.declared.View.{View}
 use Rattle.xml_values.specs.declared.View.TheVariants.{Document, Scratch}
 use Rattle.xml_values.specs.Attributes.{attribute_place, value_at, attribute_of}
-use Rattle.xml_values.specs.Views.{is_shown, view_of, view_in, said_in, plain_of, StandsIn, scratch_after, seen, InRange, view_within, Shows, stand_of, ShowsAt}
+use Rattle.xml_values.specs.Views.{is_shown, view_of, view_in, said_in, plain_of, scratch_after, seen, InRange, view_within, Shows, stand_of, ShowsAt}
 use Rattle.xml_values.proofs.Attributes.{Within, attribute_within, place_room}
 use Rattle.xml_values.specs.Places.{from_to}
 
@@ -101,16 +103,24 @@ module _ (s : List ℕ) (place p : Option Place) (ep : p ≡ place) where
     unfolding plain_of
     not_plain f = rw (← ep, z, ← et, f)
 
--- its place is within
-pub stands_at : (s : List ℕ) (p : Option Place) → StandsIn s p → (there : Place) → p ≡ Some there → (there.first ≤ there.after) × (there.after ≤ length s)
-stands_at s p w there z = rw z at w
-
-pub attribute_stands : (s : List ℕ) (first : ℕ) (name : List ℕ) (p : Option Place) → p ≡ attribute_place s first name → StandsIn s p
-attribute_stands s first name p ep = go p (rw (← ep) at (attribute_within s first name))
+-- the bytes of a place are those of the part of it that is within
+pub bytes_within : (s : List ℕ) (a e a' e' : ℕ) → e' ≡ min e (length s) → a' ≡ min a e' → part s a' e' ≡ part s a e
+bytes_within s a e a' e' he ha = inside a e' outside among
   where
-    go : (q : Option Place) → Within s q → StandsIn s q
-    go (Some p) w = (w.0, w.1)
-    go None w = tt
+    there : min (e - a) (length (drop a s)) ≡ e' - a
+    there = rw (he, length-drop a s) (omega arith)
+
+    same : take (e' - a) (drop a s) ≡ part s a e
+    same = rw (← there) (take_min (e - a) (drop a s))
+
+    outside : e' < a → part s a' e' ≡ part s a e
+    outside h =
+        let z : e' - a' ≡ 0 = omega (arith, ha) in
+        let y : e' - a ≡ 0 = omega arith in
+        rw z (rw y at same)
+
+    among : a ≤ e' → part s a' e' ≡ part s a e
+    among h = rw (ha ∙ min-eq_left h) same
 
 -- ---- what is seen
 -- a value with this raw place, which is within and within the limit: it says the bytes there, where they are shown as they stand, and never more

@@ -34,11 +34,6 @@ unfoldable pub plain_of : List ℕ → Option Place → Option Place
 plain_of s (Some p) = pick (every is_shown (part s p.first p.after)) (from_to p.first p.after) None
 plain_of s None = from_to 0 0
 
--- a value's raw place is within
-abbrev pub StandsIn : List ℕ → Option Place → Type 0
-StandsIn s (Some p) = (p.first ≤ p.after) × (p.after ≤ length s)
-StandsIn s None = Unit {0}
-
 -- the scratch area then: only the bytes that are shown there change
 unfoldable pub scratch_after : View → List ℕ → List ℕ → List ℕ
 scratch_after (Document a e) bytes scratch = scratch

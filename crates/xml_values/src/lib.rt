@@ -6,7 +6,7 @@ ghost use Rattle.text_scan.specs.Choice.{◌and◌, not};
 ghost use Rattle.text_scan.specs.Lists.{every};
 ghost use Rattle.xml_names.specs.Names.{name_end};
 ghost use Rattle.xml_values.specs.Attributes.{name_after, is_bare, attribute_place, attribute_of, is_listed, has_other};
-ghost use Rattle.xml_values.specs.Views.{is_shown, view_in, said_in, plain_of, StandsIn, seen, InRange, view_within, Shows, as_read, ShowsAt};
+ghost use Rattle.xml_values.specs.Views.{is_shown, view_in, said_in, plain_of, seen, InRange, view_within, Shows, as_read, ShowsAt};
 
 use xml_attributes::{Attribute, Attributes};
 use xml_reader::Reader;
@@ -101,15 +101,16 @@ pub fn all_shown(raw: &[u8]) -> bool
     raw.iter().all(|b| *b != b'&' && *b != b'<')
 }
 
-// Where a value stands, if it says the bytes there; an absent one is an empty part.
+// Where a value stands, if it says the bytes there; an absent one is an empty part. Of a place that is not within, the bytes that there are count.
 pub fn plain(s: &[u8], place: Option<Place>) -> Option<Place>
-    requires { StandsIn s.now place }
     ensures { result ≡ plain_of s.now place }
 {
     let Some(there) = place else {
         return Some(Place { first: 0, after: 0 });
     };
-    if all_shown(&s[there.first..there.after]) {
+    let after = there.after.min(s.len());
+    let first = there.first.min(after);
+    if all_shown(&s[first..after]) {
         return Some(there);
     }
     None
