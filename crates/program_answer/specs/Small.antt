@@ -1,6 +1,6 @@
 -- The small program (document 01, "What the desk hands in"): the check within its rooms, and what is printed of an answer.
 -- Assumes nothing.
-use Rattle.std.specs.Prelude.{ℕ, ◌+◌, ◌*◌, ◌≡◌, List, [], ◌++◌, leb, ltb, length, replicate, Result, Ok, Err}
+use Rattle.std.specs.Prelude.{ℕ, ◌≡◌, List, [], ◌++◌, ltb, length, replicate, Result, Ok, Err}
 use Rattle.refusals.specs.declared.Reason.TheVariants.{LongDocument, LongTables}
 use Rattle.refusals.specs.declared.Refusal.{Refusal}
 use Rattle.refusals.specs.Numbers.{number_of}
@@ -30,10 +30,6 @@ pub record AnswerLeft (x : Outcome) (answer : Result ℕ Refusal) (table list : 
 unfoldable pub printed : Result ℕ Refusal → List ℕ → List ℕ
 printed (Ok n) list = count_text n ++ finding_lines list 0 n
 printed (Err refusal) list = refusal_text (number_of refusal.reason) refusal.value
-
--- what is put of it into a room of so many bytes: nothing, where it does not take the text of every answer
-unfoldable pub printed_in : ℕ → Result ℕ Refusal → List ℕ → List ℕ
-printed_in room answer list = pick (leb (64 + 21 * length list) room) (printed answer list) []
 
 -- what is printed, in the front of a room, and left in element table and list, is an outcome
 pub record Prints (x : Outcome) (r : ℕ) (table list old out : List ℕ) : Type 0 where

@@ -1,9 +1,9 @@
 // The small program's answer: the check within its rooms, and the text that is printed of it.
 #![tactic(auto)]
 
-ghost use Rattle.std.specs.Prelude.{◌≡◌, ◌+◌, ◌*◌, ◌≤◌, leb, length};
+ghost use Rattle.std.specs.Prelude.{◌+◌, ◌*◌, ◌≤◌, length};
 ghost use Rattle.program_texts.specs.Texts.{Put};
-ghost use Rattle.program_answer.specs.Small.{AnswerLeft, small_of, printed_in, Prints};
+ghost use Rattle.program_answer.specs.Small.{AnswerLeft, small_of, printed, Prints};
 
 pub use program_input::read;
 use refusals::{Reason, Refusal};
@@ -44,21 +44,11 @@ fn answer(
     judge_check::check(document, tables, &mut scratch, elements, list)
 }
 
-// Whether a room takes the text of every answer, with the findings of a list.
-fn has_room(list: &[u32], out: &[u8]) -> bool
-    ensures { result ≡ leb (64 + 21 * length list.now) (length out.now) }
+// Puts the text of an answer, with the findings of a list, into the front of a room: its length.
+fn print(answer: Result<usize, Refusal>, list: &[u32], out: &mut [u8]) -> usize
+    requires { 64 + 21 * length list.now ≤ length out.old }
+    ensures { Put out.old 0 (printed answer list.now) result out.new }
 {
-    64 <= out.len() && list.len() <= (out.len() - 64) / 21
-}
-
-// Puts the text of an answer, with the findings of a list, into the front of a room: its length. A room that does not take the text of
-// every answer stays as it is.
-pub fn print(answer: Result<usize, Refusal>, list: &[u32], out: &mut [u8]) -> usize
-    ensures { Put out.old 0 (printed_in (length out.old) answer list.now) result out.new }
-{
-    if !has_room(list, out) {
-        return 0;
-    }
     match answer {
         Ok(n) => program_texts::put_list(out, list, n),
         Err(refusal) => program_texts::put_refusal(out, refusal.reason.number(), refusal.value),

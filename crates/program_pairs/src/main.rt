@@ -1,7 +1,7 @@
 // Checks documents under two tables files each, merges the two lists, and prints the answer, which is that of the check under the joined file.
 #![tactic(auto)]
 
-ghost use Rattle.std.specs.Prelude.{◌≤◌, length, IfOk};
+ghost use Rattle.std.specs.Prelude.{◌+◌, ◌*◌, ◌≤◌, length, IfOk};
 
 use list_findings::{Finding, WIDTH};
 use refusals::Refusal;
@@ -32,6 +32,27 @@ fn check_both(
     )
 }
 
+// Prints an answer, with the findings of a list.
+fn print(
+    rt: &impl Print,
+    answer: Result<usize, Refusal>,
+    list: &[u32],
+    out: &mut [u8],
+) -> io::Result<()>
+    requires { 64 + 21 * length list.now ≤ length out.old }
+{
+    match answer {
+        Ok(n) => {
+            let k = program_texts::put_list(out, list, n);
+            rt.write_all(&out[..k])
+        }
+        Err(refusal) => {
+            let k = program_texts::put_refusal(out, refusal.reason.number(), refusal.value);
+            rt.write_all(&out[..k])
+        }
+    }
+}
+
 // Checks and prints, with room for 256 findings in each list.
 fn judge(rt: &impl Print, document: &[u8], one: &[u8], other: &[u8]) -> io::Result<()> {
     let mut scratch = [0u8; Reader::SCRATCH];
@@ -48,8 +69,7 @@ fn judge(rt: &impl Print, document: &[u8], one: &[u8], other: &[u8]) -> io::Resu
         &mut list,
         &mut merged,
     );
-    let n = program_answer::print(answer, &merged, &mut out);
-    rt.write_all(&out[..n])
+    print(rt, answer, &merged, &mut out)
 }
 
 // How many bytes of a file were read into the room; none where it cannot be read, which is told.
