@@ -1,7 +1,10 @@
 // The small program's answer: the check within its rooms, and the text that is printed of it.
 #![tactic(auto)]
 
-ghost use Rattle.std.specs.Prelude.{◌+◌, ◌*◌, ◌≤◌, length};
+#[cfg(test)]
+mod tests;
+
+ghost use Rattle.std.specs.Prelude.{◌+◌, ◌*◌, ◌≡◌, ◌<◌, ◌≤◌, length};
 ghost use Rattle.program_texts.specs.Texts.{Put};
 ghost use Rattle.program_answer.specs.Small.{AnswerLeft, small_of, printed, Prints};
 
@@ -45,7 +48,7 @@ fn answer(
 }
 
 // Puts the text of an answer, with the findings of a list, into the front of a room: its length.
-fn print(answer: Result<usize, Refusal>, list: &[u32], out: &mut [u8]) -> usize
+fn put_answer(answer: Result<usize, Refusal>, list: &[u32], out: &mut [u8]) -> usize
     requires { 64 + 21 * length list.now ≤ length out.old }
     ensures { Put out.old 0 (printed answer list.now) result out.new }
 {
@@ -53,6 +56,16 @@ fn print(answer: Result<usize, Refusal>, list: &[u32], out: &mut [u8]) -> usize
         Ok(n) => program_texts::put_list(out, list, n),
         Err(refusal) => program_texts::put_refusal(out, refusal.reason.number(), refusal.value),
     }
+}
+
+// Puts the same text into a room of any length: its length. A room of fewer than 64 bytes, and 21 for each number of the list, stays as it was: 0.
+pub fn print(answer: Result<usize, Refusal>, list: &[u32], out: &mut [u8]) -> usize
+    ensures { (64 + 21 * length list.now ≤ length out.old → Put out.old 0 (printed answer list.now) result out.new) × (length out.old < 64 + 21 * length list.now → (result ≡ 0) × (out.new ≡ out.old)) }
+{
+    if out.len() < 64 || (out.len() - 64) / 21 < list.len() {
+        return 0;
+    }
+    put_answer(answer, list, out)
 }
 
 // Answers, and puts the text of the answer into the front of a room: its length.
@@ -67,5 +80,5 @@ pub fn run(
     ensures { Prints (small_of document.now tables.now elements.old list.old) result elements.new list.new out.old out.new }
 {
     let given = answer(document, tables, elements, list);
-    print(given, list, out)
+    put_answer(given, list, out)
 }
