@@ -1,23 +1,11 @@
 -- The contracts of `print` and `run` decide what is answered and left, and that of `put_answer`, through which both go.
 -- Assumes nothing.
-use mathlib.Core.Path.{◌≡◌, refl}
-use mathlib.Core.Bool.{Bool, true, false}
-use Prim.Native.Nat.{ℕ, ◌<◌, ◌≤◌}
-use borrow.Author.Tests.{ltb-true, ltb-false}
-use lib.Dec.{ltb}
 use Rattle.text_scan.proofs.Decides.{only, Answers, Decides}
+use Rattle.text_scan.proofs.Within.{inside}
 use Rattle.program_texts.proofs.Decided.{one_room}
 use Rattle.program_answer.proofs.put_answer
 use Rattle.program_answer.proofs.print
 use Rattle.program_answer.proofs.run
-
--- what follows of a room that is long enough, and of one that is too short
-by_room : {A : Type 0} (m n : ℕ) → (m ≤ n → A) → (n < m → A) → A
-by_room {A = A} m n f g = go (ltb n m) refl
-  where
-    go : (t : Bool) → ltb n m ≡ t → A
-    go true q = g (ltb-true n m q)
-    go false q = f (ltb-false n m q)
 
 pub put_answer_decided : Answers put_answer.Kinds.ps put_answer.Kinds.r put_answer.Reads.Post
 put_answer_decided κs a x y s t p q = only p.ends q.ends
@@ -26,10 +14,10 @@ pub put_answer_out : Decides put_answer.Kinds.ps put_answer.Kinds.r put_answer.R
 put_answer_out κs a x y s t p q = one_room _ _ _ x y _ _ p q
 
 pub print_decided : Answers print.Kinds.ps print.Kinds.r print.Reads.Post
-print_decided κs a x y s t p q = by_room _ _ (λ h. only (p.0 h).ends (q.0 h).ends) (λ h. only (p.1 h).0 (q.1 h).0)
+print_decided κs a x y s t p q = inside _ _ (λ h. only (p.1 h).0 (q.1 h).0) (λ h. only (p.0 h).ends (q.0 h).ends)
 
 pub print_out : Decides print.Kinds.ps print.Kinds.r print.Reads.Post (λ κs x s. s.1.1.0.now)
-print_out κs a x y s t p q = by_room _ _ (λ h. one_room _ _ _ x y _ _ (p.0 h) (q.0 h)) (λ h. only (p.1 h).1 (q.1 h).1)
+print_out κs a x y s t p q = inside _ _ (λ h. only (p.1 h).1 (q.1 h).1) (λ h. one_room _ _ _ x y _ _ (p.0 h) (q.0 h))
 
 pub run_decided : Answers run.Kinds.ps run.Kinds.r run.Reads.Post
 run_decided κs a x y s t p q = only p.prints.ends q.prints.ends

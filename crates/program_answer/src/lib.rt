@@ -58,7 +58,7 @@ fn put_answer(answer: Result<usize, Refusal>, list: &[u32], out: &mut [u8]) -> u
     }
 }
 
-// Puts the same text into a room of any length: its length. A room of fewer than 64 bytes, and 21 for each number of the list, stays as it was: 0.
+// Puts the same text into the front of a room of any length: its length; or 0, where the room has less than 64 bytes and 21 for each number of the list, and stays as it was.
 pub fn print(answer: Result<usize, Refusal>, list: &[u32], out: &mut [u8]) -> usize
     ensures { (64 + 21 * length list.now ≤ length out.old → Put out.old 0 (printed answer list.now) result out.new) × (length out.old < 64 + 21 * length list.now → (result ≡ 0) × (out.new ≡ out.old)) }
 {
